@@ -1,0 +1,87 @@
+-- What the readers say, from the table of crate rules: the fields of a header that passes its tests, or the first failed.
+use Prim.Native.Nat.{ℕ}
+use mathlib.Core.List.{List}
+use lib.ListN.{length}
+use Rattle.rules.specs.declared.ether_type.EtherType.{EtherType}
+use Rattle.rules.specs.declared.ip_number.IpNumber.{IpNumber}
+use Rattle.rules.specs.declared.kind.Kind.{Kind}
+use Rattle.rules.specs.declared.kind.Kind.the-variants.{Udp, Tcp}
+use Rattle.rules.specs.declared.place.Number.{Number}
+use Rattle.rules.specs.declared.place.Number.the-variants.{Link, Ip}
+use Rattle.rules.specs.Test.{Outcome, whole, failed, judge}
+use Rattle.rules.specs.Paper.{faultOnPaper}
+use Rattle.rules.specs.Rules.{Rule, rule, rawRule, etherType, ipNumber, udpEnd, tcpEnd, seenBy, testsBy}
+use Rattle.headers.specs.declared.link.LinkRead.{LinkRead}
+use Rattle.headers.specs.declared.link.LinkRead.the-variants as L
+use Rattle.headers.specs.declared.net.IpHeader.{IpHeader}
+use Rattle.headers.specs.declared.net.IpRead.{IpRead}
+use Rattle.headers.specs.declared.net.IpRead.the-variants as I
+use Rattle.headers.specs.declared.net.ExtHeader.{ExtHeader}
+use Rattle.headers.specs.declared.net.ExtRead.{ExtRead}
+use Rattle.headers.specs.declared.net.ExtRead.the-variants as E
+use Rattle.headers.specs.declared.transport.TransportHeader.{TransportHeader}
+use Rattle.headers.specs.declared.transport.TransportRead.{TransportRead}
+use Rattle.headers.specs.declared.transport.TransportRead.the-variants as T
+
+-- ---- the answers on paper: what a whole header says, or the row of the refusal
+
+abbrev pub linkOnPaper : LinkRead → Outcome EtherType
+linkOnPaper (L.Whole x) = whole x
+linkOnPaper (L.Refused f) = failed (faultOnPaper f)
+
+abbrev pub ipOnPaper : IpRead → Outcome IpHeader
+ipOnPaper (I.Whole x) = whole x
+ipOnPaper (I.Refused f) = failed (faultOnPaper f)
+
+abbrev pub extOnPaper : ExtRead → Outcome ExtHeader
+extOnPaper (E.Whole x) = whole x
+extOnPaper (E.Refused f) = failed (faultOnPaper f)
+
+abbrev pub transportOnPaper : TransportRead → Outcome TransportHeader
+transportOnPaper (T.Whole x) = whole x
+transportOnPaper (T.Refused f) = failed (faultOnPaper f)
+
+-- ---- the fields, by a kind's rule
+
+-- the number named, as a link number and as an IP number
+abbrev pub linkNumber : Number → EtherType
+linkNumber (Link n) = n
+linkNumber (Ip n) = etherType 0
+
+abbrev pub netNumber : Number → IpNumber
+netNumber (Link n) = ipNumber 0
+netNumber (Ip n) = n
+
+abbrev pub ipFields : Rule → (ℕ → ℕ) → IpHeader
+ipFields r g = record { len = r .length g; declared = r .declared g; names = netNumber (r .names g); fragmented = r .marks g }
+
+abbrev pub extFields : Rule → (ℕ → ℕ) → ExtHeader
+extFields r g = record { len = r .length g; names = netNumber (r .names g); fragmenting = r .marks g }
+
+abbrev pub transportFields : Rule → (ends : (ℕ → ℕ) → ℕ → ℕ) → (ℕ → ℕ) → ℕ → TransportHeader
+transportFields r ends g have = record { len = r .length g; end = ends g have }
+
+-- ---- what is said of the bytes w
+
+-- of the bytes that decide, the fields; or the first test that failed (no test of the base asks for the IP version: 0)
+abbrev pub says : {A : Type 0} → Kind → Rule → ((ℕ → ℕ) → ℕ → A) → List ℕ → Outcome A
+says k r fields w = judge (testsBy k r 0 (seenBy r w) (length w)) (fields (seenBy r w) (length w))
+
+abbrev pub linkSays : Kind → List ℕ → Outcome EtherType
+linkSays k = says k (rule k) (λ g have. linkNumber (rule k .names g))
+
+abbrev pub ipSays : Kind → List ℕ → Outcome IpHeader
+ipSays k = says k (rule k) (λ g have. ipFields (rule k) g)
+
+abbrev pub extSays : Kind → List ℕ → Outcome ExtHeader
+extSays k = says k (rule k) (λ g have. extFields (rule k) g)
+
+-- the raw shape under any name: extSays k, where k is hop-by-hop, routing or destination
+abbrev pub rawSays : Kind → List ℕ → Outcome ExtHeader
+rawSays k = says k (rawRule k) (λ g have. extFields (rawRule k) g)
+
+abbrev pub udpSays : List ℕ → Outcome TransportHeader
+udpSays = says Udp (rule Udp) (transportFields (rule Udp) udpEnd)
+
+abbrev pub tcpSays : List ℕ → Outcome TransportHeader
+tcpSays = says Tcp (rule Tcp) (transportFields (rule Tcp) tcpEnd)

@@ -1,0 +1,22 @@
+// The Ethernet II header: destination and source address, then the EtherType (IEEE 802.3, clause 3.2.6).
+ghost use mathlib.Core.Path.{_≡_};
+ghost use Rattle.headers.specs.Says.{linkOnPaper, linkSays};
+ghost use Rattle.rules.specs.declared.kind.Kind.the-variants as K;
+use crate::link::LinkRead;
+use rules::Bound;
+use rules::EtherType;
+use rules::Fault;
+use rules::Kind;
+use rules::Layer;
+use rules::bytes::be16;
+use rules::length;
+
+pub fn read_ethernet2(w: &[u8]) -> LinkRead
+    ensures { λ r. ⌜ linkOnPaper r ≡ linkSays K.Ethernet2 (now (w .entry)) ⌝ }
+{
+    let have = w.len();
+    if have < length::ETHERNET2 {
+        return LinkRead::Refused(Fault::TooShort { required: length::ETHERNET2, have, layer: Layer::Of(Kind::Ethernet2), bound: Bound::Room });
+    }
+    LinkRead::Whole(EtherType(be16(w, 12)))
+}

@@ -1,0 +1,22 @@
+// A VLAN tag, behind the tag type: priority and identifier, then the type of what follows (IEEE 802.1Q, clause 9.6).
+ghost use mathlib.Core.Path.{_≡_};
+ghost use Rattle.headers.specs.Says.{linkOnPaper, linkSays};
+ghost use Rattle.rules.specs.declared.kind.Kind.the-variants as K;
+use crate::link::LinkRead;
+use rules::Bound;
+use rules::EtherType;
+use rules::Fault;
+use rules::Kind;
+use rules::Layer;
+use rules::bytes::be16;
+use rules::length;
+
+pub fn read_vlan(w: &[u8]) -> LinkRead
+    ensures { λ r. ⌜ linkOnPaper r ≡ linkSays K.Vlan (now (w .entry)) ⌝ }
+{
+    let have = w.len();
+    if have < length::VLAN {
+        return LinkRead::Refused(Fault::TooShort { required: length::VLAN, have, layer: Layer::Of(Kind::Vlan), bound: Bound::Room });
+    }
+    LinkRead::Whole(EtherType(be16(w, 2)))
+}

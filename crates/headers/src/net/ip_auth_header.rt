@@ -1,0 +1,31 @@
+// The IP authentication header (RFC 4302, section 2). Its length byte counts words of four bytes, two less than there are.
+ghost use mathlib.Core.Path.{_≡_};
+ghost use Rattle.headers.specs.Says.{extOnPaper, extSays};
+ghost use Rattle.rules.specs.declared.kind.Kind.the-variants as K;
+use crate::net::ExtHeader;
+use crate::net::ExtRead;
+use rules::Bound;
+use rules::Fault;
+use rules::IpNumber;
+use rules::Kind;
+use rules::Layer;
+use rules::bytes::byte;
+use rules::length;
+
+pub fn read_auth(w: &[u8]) -> ExtRead
+    ensures { λ r. ⌜ extOnPaper r ≡ extSays K.Auth (now (w .entry)) ⌝ }
+{
+    let have = w.len();
+    if have < length::AUTH {
+        return ExtRead::Refused(Fault::TooShort { required: length::AUTH, have, layer: Layer::Of(Kind::Auth), bound: Bound::Room });
+    }
+    let words = byte(w, 1) as usize;
+    if words == 0 {
+        return ExtRead::Refused(Fault::ZeroAuthLength);
+    }
+    let len = (words + 2) * 4;
+    if have < len {
+        return ExtRead::Refused(Fault::TooShort { required: len, have, layer: Layer::Of(Kind::Auth), bound: Bound::Room });
+    }
+    ExtRead::Whole(ExtHeader { len, names: IpNumber(byte(w, 0)), fragmenting: false })
+}

@@ -1,0 +1,27 @@
+// The IPv6 fragment header (RFC 8200, section 4.5).
+ghost use mathlib.Core.Path.{_≡_};
+ghost use Rattle.headers.specs.Says.{extOnPaper, extSays};
+ghost use Rattle.rules.specs.declared.kind.Kind.the-variants as K;
+use crate::net::ExtHeader;
+use crate::net::ExtRead;
+use crate::net::fragmenting;
+use rules::Bound;
+use rules::Fault;
+use rules::IpNumber;
+use rules::Kind;
+use rules::Layer;
+use rules::bytes::be16;
+use rules::bytes::byte;
+use rules::length;
+
+pub fn read_fragment(w: &[u8]) -> ExtRead
+    ensures { λ r. ⌜ extOnPaper r ≡ extSays K.Fragment (now (w .entry)) ⌝ }
+{
+    let have = w.len();
+    if have < length::FRAGMENT {
+        return ExtRead::Refused(Fault::TooShort { required: length::FRAGMENT, have, layer: Layer::Of(Kind::Fragment), bound: Bound::Room });
+    }
+    let word = be16(w, 2);
+    let fragmenting = fragmenting(word / 8, word % 2);
+    ExtRead::Whole(ExtHeader { len: length::FRAGMENT, names: IpNumber(byte(w, 0)), fragmenting })
+}

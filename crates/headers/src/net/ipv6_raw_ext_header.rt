@@ -1,0 +1,29 @@
+// The three extension headers of one shape: hop-by-hop options, routing, destination options (RFC 8200, sections 4.3, 4.4, 4.6).
+// Their length byte counts units of eight bytes, the first left out.
+ghost use mathlib.Core.Path.{_≡_};
+ghost use Rattle.headers.specs.Says.{extOnPaper, rawSays};
+use crate::net::ExtHeader;
+use crate::net::ExtRead;
+use rules::Bound;
+use rules::Fault;
+use rules::IpNumber;
+use rules::Kind;
+use rules::Layer;
+use rules::bytes::byte;
+use rules::length;
+
+// `kind` is only the name that a refusal gives the header.
+pub fn read_raw_ext(w: &[u8], kind: Kind) -> ExtRead
+    ensures { λ r. ⌜ extOnPaper r ≡ rawSays kind (now (w .entry)) ⌝ }
+{
+    let have = w.len();
+    if have < length::RAW_EXT {
+        return ExtRead::Refused(Fault::TooShort { required: length::RAW_EXT, have, layer: Layer::Of(kind), bound: Bound::Room });
+    }
+    let units = byte(w, 1) as usize;
+    let len = (units + 1) * 8;
+    if have < len {
+        return ExtRead::Refused(Fault::TooShort { required: len, have, layer: Layer::Of(kind), bound: Bound::Room });
+    }
+    ExtRead::Whole(ExtHeader { len, names: IpNumber(byte(w, 0)), fragmenting: false })
+}
