@@ -118,7 +118,7 @@ linkRule length type =
       marks = λ g. false;
       names = λ g. Link (etherType (number 2 g type));
       turn = λ g p. link p (number 2 g type);
-      payload = λ g at p. p .end
+      payload = λ g at p. p .end;
     }
 
 -- "IPv4 (RFC 791), checked in this order: 20 bytes there; version 4; IHL at least 5; IHL x 4 bytes there; total length
@@ -140,7 +140,7 @@ ipv4Rule =
       marks = λ g. fragments (number 2 g 6 % 0x2000) (number 2 g 6 / 0x2000 % 2);
       names = λ g. Ip (ipNumber (g 9));
       turn = λ g p. chain4 p (g 9);
-      payload = λ g at p. p .end
+      payload = λ g at p. p .end;
     }
 
 -- "IPv6 (RFC 8200), in order: 40 bytes there; version 6; 40 + payload length there. Payload length 0: the room is all
@@ -159,7 +159,7 @@ ipv6Rule =
       marks = λ g. false;
       names = λ g. Ip (ipNumber (g 6));
       turn = λ g p. chain6 true p (g 6);
-      payload = λ g at p. p .end
+      payload = λ g at p. p .end;
     }
 
 -- "hop-by-hop 0, routing 43, destination 60 are (second byte + 1) x 8 long, at least 8" (RFC 8200, sections 4.3, 4.4, 4.6)
@@ -175,7 +175,7 @@ rawRule k =
       marks = λ g. false;
       names = λ g. Ip (ipNumber (g 0));
       turn = λ g p. chain6 false p (g 0);
-      payload = λ g at p. p .end
+      payload = λ g at p. p .end;
     }
 
 -- "fragment 44 is 8, fragmenting if offset or M is nonzero"; the offset is the upper 13 bits of bytes 2 and 3, M the
@@ -192,7 +192,7 @@ fragmentRule =
       marks = λ g. fragments (number 2 g 2 / 8) (number 2 g 2 % 2);
       names = λ g. Ip (ipNumber (g 0));
       turn = λ g p. chain6 false p (g 0);
-      payload = λ g at p. p .end
+      payload = λ g at p. p .end;
     }
 
 -- "AUTH 51 is (second byte + 2) x 4, at least 12 (RFC 4302), its zero test after the 12-byte test and before the full
@@ -209,7 +209,7 @@ authRule =
       marks = λ g. false;
       names = λ g. Ip (ipNumber (g 0));
       turn = λ g p. pick (eqb (p .version) 4) (transport p (g 0)) (chain6 false p (g 0));
-      payload = λ g at p. p .end
+      payload = λ g at p. p .end;
     }
 
 -- "UDP (RFC 768): 8 bytes; length 0 means the rest of the room (as RFC 2675 has it); 1 to 7 is refused; else length must
@@ -228,7 +228,7 @@ udpRule =
       marks = λ g. false;
       names = λ g. Ip (ipNumber Numbers.udpNumber);
       turn = λ g p. stops Numbers.transportRead;
-      payload = λ g at p. at + udpEnd g (p .end - at)
+      payload = λ g at p. at + udpEnd g (p .end - at);
     }
 
 -- "TCP (RFC 9293): 20 bytes, data offset at least 5, then offset x 4 bytes there." (RFC 9293, section 3.1)
@@ -246,7 +246,7 @@ tcpRule =
       marks = λ g. false;
       names = λ g. Ip (ipNumber Numbers.tcpNumber);
       turn = λ g p. stops Numbers.transportRead;
-      payload = λ g at p. at + tcpEnd g (p .end - at)
+      payload = λ g at p. at + tcpEnd g (p .end - at);
     }
 
 abbrev pub rule : Kind → Rule

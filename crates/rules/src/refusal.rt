@@ -29,12 +29,25 @@ impl Bound {
 
 // What a reader can tell from its own bytes.
 pub enum Fault {
-    TooShort { required: usize, have: usize, layer: Layer, bound: Bound },
-    Ipv4Version { version: usize },
-    SmallIhl { ihl: usize },
-    Ipv6Version { version: usize },
+    TooShort {
+        required: usize,
+        have: usize,
+        layer: Layer,
+        bound: Bound,
+    },
+    Ipv4Version {
+        version: usize,
+    },
+    SmallIhl {
+        ihl: usize,
+    },
+    Ipv6Version {
+        version: usize,
+    },
     ZeroAuthLength,
-    SmallDataOffset { value: usize },
+    SmallDataOffset {
+        value: usize,
+    },
 }
 
 impl Fault {
@@ -43,9 +56,20 @@ impl Fault {
         ensures { λ r. ⌜ refusalOnPaper r ≡ placed (faultOnPaper self) offset room ⌝ }
     {
         match self {
-            Fault::TooShort { required, have, layer, bound } => {
+            Fault::TooShort {
+                required,
+                have,
+                layer,
+                bound,
+            } => {
                 let source = bound.source(room);
-                Refusal::TooShort { offset, required, have, layer, source }
+                Refusal::TooShort {
+                    offset,
+                    required,
+                    have,
+                    layer,
+                    source,
+                }
             }
             Fault::Ipv4Version { version } => Refusal::Ipv4Version { offset, version },
             Fault::SmallIhl { ihl } => Refusal::SmallIhl { offset, ihl },
@@ -57,13 +81,35 @@ impl Fault {
 }
 
 pub enum Refusal {
-    TooShort { offset: usize, required: usize, have: usize, layer: Layer, source: Source },
-    Ipv4Version { offset: usize, version: usize },
-    SmallIhl { offset: usize, ihl: usize },
-    Ipv6Version { offset: usize, version: usize },
-    HopByHopNotAtStart { offset: usize },
-    ZeroAuthLength { offset: usize },
-    SmallDataOffset { offset: usize, value: usize },
+    TooShort {
+        offset: usize,
+        required: usize,
+        have: usize,
+        layer: Layer,
+        source: Source,
+    },
+    Ipv4Version {
+        offset: usize,
+        version: usize,
+    },
+    SmallIhl {
+        offset: usize,
+        ihl: usize,
+    },
+    Ipv6Version {
+        offset: usize,
+        version: usize,
+    },
+    HopByHopNotAtStart {
+        offset: usize,
+    },
+    ZeroAuthLength {
+        offset: usize,
+    },
+    SmallDataOffset {
+        offset: usize,
+        value: usize,
+    },
 }
 
 // A refusal as document 01's table has it: its number, its layer and offset, and what else its row carries, in
@@ -80,13 +126,54 @@ impl Refusal {
         ensures { λ r. ⌜ r ≡ refusalOnPaper self ⌝ }
     {
         match self {
-            Refusal::TooShort { offset, required, have, layer, source } => Row { number: 1, layer, offset, values: [required, have, source.number()] },
-            Refusal::Ipv4Version { offset, version } => Row { number: 2, layer: Layer::Of(Kind::Ipv4), offset, values: [version, 0, 0] },
-            Refusal::SmallIhl { offset, ihl } => Row { number: 3, layer: Layer::Of(Kind::Ipv4), offset, values: [ihl, 0, 0] },
-            Refusal::Ipv6Version { offset, version } => Row { number: 4, layer: Layer::Of(Kind::Ipv6), offset, values: [version, 0, 0] },
-            Refusal::HopByHopNotAtStart { offset } => Row { number: 5, layer: Layer::Of(Kind::HopByHop), offset, values: [0, 0, 0] },
-            Refusal::ZeroAuthLength { offset } => Row { number: 6, layer: Layer::Of(Kind::Auth), offset, values: [0, 0, 0] },
-            Refusal::SmallDataOffset { offset, value } => Row { number: 7, layer: Layer::Of(Kind::Tcp), offset, values: [value, 0, 0] },
+            Refusal::TooShort {
+                offset,
+                required,
+                have,
+                layer,
+                source,
+            } => Row {
+                number: 1,
+                layer,
+                offset,
+                values: [required, have, source.number()],
+            },
+            Refusal::Ipv4Version { offset, version } => Row {
+                number: 2,
+                layer: Layer::Of(Kind::Ipv4),
+                offset,
+                values: [version, 0, 0],
+            },
+            Refusal::SmallIhl { offset, ihl } => Row {
+                number: 3,
+                layer: Layer::Of(Kind::Ipv4),
+                offset,
+                values: [ihl, 0, 0],
+            },
+            Refusal::Ipv6Version { offset, version } => Row {
+                number: 4,
+                layer: Layer::Of(Kind::Ipv6),
+                offset,
+                values: [version, 0, 0],
+            },
+            Refusal::HopByHopNotAtStart { offset } => Row {
+                number: 5,
+                layer: Layer::Of(Kind::HopByHop),
+                offset,
+                values: [0, 0, 0],
+            },
+            Refusal::ZeroAuthLength { offset } => Row {
+                number: 6,
+                layer: Layer::Of(Kind::Auth),
+                offset,
+                values: [0, 0, 0],
+            },
+            Refusal::SmallDataOffset { offset, value } => Row {
+                number: 7,
+                layer: Layer::Of(Kind::Tcp),
+                offset,
+                values: [value, 0, 0],
+            },
         }
     }
 }

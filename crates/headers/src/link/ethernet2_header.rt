@@ -3,11 +3,9 @@ ghost use mathlib.Core.Path.{_≡_};
 ghost use Rattle.headers.specs.Says.{linkOnPaper, linkSays};
 ghost use Rattle.rules.specs.declared.kind.Kind.the-variants as K;
 use crate::link::LinkRead;
-use rules::Bound;
+use crate::too_short;
 use rules::EtherType;
-use rules::Fault;
 use rules::Kind;
-use rules::Layer;
 use rules::bytes::be16;
 use rules::length;
 
@@ -16,7 +14,7 @@ pub fn read_ethernet2(w: &[u8]) -> LinkRead
 {
     let have = w.len();
     if have < length::ETHERNET2 {
-        return LinkRead::Refused(Fault::TooShort { required: length::ETHERNET2, have, layer: Layer::Of(Kind::Ethernet2), bound: Bound::Room });
+        return LinkRead::Refused(too_short(Kind::Ethernet2, length::ETHERNET2, have));
     }
     LinkRead::Whole(EtherType(be16(w, 12)))
 }

@@ -3,11 +3,9 @@ ghost use mathlib.Core.Path.{_≡_};
 ghost use Rattle.headers.specs.Says.{linkOnPaper, linkSays};
 ghost use Rattle.rules.specs.declared.kind.Kind.the-variants as K;
 use crate::link::LinkRead;
-use rules::Bound;
+use crate::too_short;
 use rules::EtherType;
-use rules::Fault;
 use rules::Kind;
-use rules::Layer;
 use rules::bytes::be16;
 use rules::length;
 
@@ -16,7 +14,7 @@ pub fn read_vlan(w: &[u8]) -> LinkRead
 {
     let have = w.len();
     if have < length::VLAN {
-        return LinkRead::Refused(Fault::TooShort { required: length::VLAN, have, layer: Layer::Of(Kind::Vlan), bound: Bound::Room });
+        return LinkRead::Refused(too_short(Kind::Vlan, length::VLAN, have));
     }
     LinkRead::Whole(EtherType(be16(w, 2)))
 }

@@ -4,11 +4,10 @@ ghost use Rattle.headers.specs.Says.{extOnPaper, extSays};
 ghost use Rattle.rules.specs.declared.kind.Kind.the-variants as K;
 use crate::net::ExtHeader;
 use crate::net::ExtRead;
-use rules::Bound;
+use crate::too_short;
 use rules::Fault;
 use rules::IpNumber;
 use rules::Kind;
-use rules::Layer;
 use rules::bytes::byte;
 use rules::length;
 
@@ -17,7 +16,7 @@ pub fn read_auth(w: &[u8]) -> ExtRead
 {
     let have = w.len();
     if have < length::AUTH {
-        return ExtRead::Refused(Fault::TooShort { required: length::AUTH, have, layer: Layer::Of(Kind::Auth), bound: Bound::Room });
+        return ExtRead::Refused(too_short(Kind::Auth, length::AUTH, have));
     }
     let words = byte(w, 1) as usize;
     if words == 0 {
@@ -25,7 +24,11 @@ pub fn read_auth(w: &[u8]) -> ExtRead
     }
     let len = (words + 2) * 4;
     if have < len {
-        return ExtRead::Refused(Fault::TooShort { required: len, have, layer: Layer::Of(Kind::Auth), bound: Bound::Room });
+        return ExtRead::Refused(too_short(Kind::Auth, len, have));
     }
-    ExtRead::Whole(ExtHeader { len, names: IpNumber(byte(w, 0)), fragmenting: false })
+    ExtRead::Whole(ExtHeader {
+        len,
+        names: IpNumber(byte(w, 0)),
+        fragmenting: false,
+    })
 }

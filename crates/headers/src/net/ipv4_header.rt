@@ -5,6 +5,7 @@ ghost use Rattle.rules.specs.declared.kind.Kind.the-variants as K;
 use crate::net::IpHeader;
 use crate::net::IpRead;
 use crate::net::fragmenting;
+use crate::too_short;
 use rules::Bound;
 use rules::Fault;
 use rules::IpNumber;
@@ -19,7 +20,7 @@ pub fn read_ipv4(w: &[u8]) -> IpRead
 {
     let have = w.len();
     if have < length::IPV4 {
-        return IpRead::Refused(Fault::TooShort { required: length::IPV4, have, layer: Layer::Of(Kind::Ipv4), bound: Bound::Room });
+        return IpRead::Refused(too_short(Kind::Ipv4, length::IPV4, have));
     }
     let first = byte(w, 0) as usize;
     let version = first / 16;
@@ -27,21 +28,36 @@ pub fn read_ipv4(w: &[u8]) -> IpRead
         return IpRead::Refused(Fault::Ipv4Version { version });
     }
     let ihl = first % 16;
-    if ihl < 5 {
+    if ihl < length::LEAST_WORDS {
         return IpRead::Refused(Fault::SmallIhl { ihl });
     }
     let len = ihl * 4;
     if have < len {
-        return IpRead::Refused(Fault::TooShort { required: len, have, layer: Layer::Of(Kind::Ipv4), bound: Bound::Room });
+        return IpRead::Refused(too_short(Kind::Ipv4, len, have));
     }
     let total = be16(w, 2) as usize;
     if total < len {
-        return IpRead::Refused(Fault::TooShort { required: len, have: total, layer: Layer::Ipv4Packet, bound: Bound::Ipv4TotalLength });
+        return IpRead::Refused(Fault::TooShort {
+            required: len,
+            have: total,
+            layer: Layer::Ipv4Packet,
+            bound: Bound::Ipv4TotalLength,
+        });
     }
     if have < total {
-        return IpRead::Refused(Fault::TooShort { required: total, have, layer: Layer::Ipv4Packet, bound: Bound::Room });
+        return IpRead::Refused(Fault::TooShort {
+            required: total,
+            have,
+            layer: Layer::Ipv4Packet,
+            bound: Bound::Room,
+        });
     }
     let word = be16(w, 6);
     let fragmented = fragmenting(word % 0x2000, word / 0x2000 % 2);
-    IpRead::Whole(IpHeader { len, declared: total, names: IpNumber(byte(w, 9)), fragmented })
+    IpRead::Whole(IpHeader {
+        len,
+        declared: total,
+        names: IpNumber(byte(w, 9)),
+        fragmented,
+    })
 }

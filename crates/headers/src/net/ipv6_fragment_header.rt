@@ -5,11 +5,9 @@ ghost use Rattle.rules.specs.declared.kind.Kind.the-variants as K;
 use crate::net::ExtHeader;
 use crate::net::ExtRead;
 use crate::net::fragmenting;
-use rules::Bound;
-use rules::Fault;
+use crate::too_short;
 use rules::IpNumber;
 use rules::Kind;
-use rules::Layer;
 use rules::bytes::be16;
 use rules::bytes::byte;
 use rules::length;
@@ -19,9 +17,13 @@ pub fn read_fragment(w: &[u8]) -> ExtRead
 {
     let have = w.len();
     if have < length::FRAGMENT {
-        return ExtRead::Refused(Fault::TooShort { required: length::FRAGMENT, have, layer: Layer::Of(Kind::Fragment), bound: Bound::Room });
+        return ExtRead::Refused(too_short(Kind::Fragment, length::FRAGMENT, have));
     }
     let word = be16(w, 2);
     let fragmenting = fragmenting(word / 8, word % 2);
-    ExtRead::Whole(ExtHeader { len: length::FRAGMENT, names: IpNumber(byte(w, 0)), fragmenting })
+    ExtRead::Whole(ExtHeader {
+        len: length::FRAGMENT,
+        names: IpNumber(byte(w, 0)),
+        fragmenting,
+    })
 }

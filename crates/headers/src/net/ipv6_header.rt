@@ -4,6 +4,7 @@ ghost use Rattle.headers.specs.Says.{ipOnPaper, ipSays};
 ghost use Rattle.rules.specs.declared.kind.Kind.the-variants as K;
 use crate::net::IpHeader;
 use crate::net::IpRead;
+use crate::too_short;
 use rules::Bound;
 use rules::Fault;
 use rules::IpNumber;
@@ -18,7 +19,7 @@ pub fn read_ipv6(w: &[u8]) -> IpRead
 {
     let have = w.len();
     if have < length::IPV6 {
-        return IpRead::Refused(Fault::TooShort { required: length::IPV6, have, layer: Layer::Of(Kind::Ipv6), bound: Bound::Room });
+        return IpRead::Refused(too_short(Kind::Ipv6, length::IPV6, have));
     }
     let version = (byte(w, 0) as usize) / 16;
     if version != 6 {
@@ -27,11 +28,26 @@ pub fn read_ipv6(w: &[u8]) -> IpRead
     let payload = be16(w, 4) as usize;
     let names = IpNumber(byte(w, 6));
     if payload == 0 {
-        return IpRead::Whole(IpHeader { len: length::IPV6, declared: 0, names, fragmented: false });
+        return IpRead::Whole(IpHeader {
+            len: length::IPV6,
+            declared: 0,
+            names,
+            fragmented: false,
+        });
     }
     let declared = length::IPV6 + payload;
     if have < declared {
-        return IpRead::Refused(Fault::TooShort { required: declared, have, layer: Layer::Ipv6Packet, bound: Bound::Room });
+        return IpRead::Refused(Fault::TooShort {
+            required: declared,
+            have,
+            layer: Layer::Ipv6Packet,
+            bound: Bound::Room,
+        });
     }
-    IpRead::Whole(IpHeader { len: length::IPV6, declared, names, fragmented: false })
+    IpRead::Whole(IpHeader {
+        len: length::IPV6,
+        declared,
+        names,
+        fragmented: false,
+    })
 }

@@ -4,11 +4,9 @@ ghost use mathlib.Core.Path.{_≡_};
 ghost use Rattle.headers.specs.Says.{extOnPaper, rawSays};
 use crate::net::ExtHeader;
 use crate::net::ExtRead;
-use rules::Bound;
-use rules::Fault;
+use crate::too_short;
 use rules::IpNumber;
 use rules::Kind;
-use rules::Layer;
 use rules::bytes::byte;
 use rules::length;
 
@@ -18,12 +16,16 @@ pub fn read_raw_ext(w: &[u8], kind: Kind) -> ExtRead
 {
     let have = w.len();
     if have < length::RAW_EXT {
-        return ExtRead::Refused(Fault::TooShort { required: length::RAW_EXT, have, layer: Layer::Of(kind), bound: Bound::Room });
+        return ExtRead::Refused(too_short(kind, length::RAW_EXT, have));
     }
     let units = byte(w, 1) as usize;
     let len = (units + 1) * 8;
     if have < len {
-        return ExtRead::Refused(Fault::TooShort { required: len, have, layer: Layer::Of(kind), bound: Bound::Room });
+        return ExtRead::Refused(too_short(kind, len, have));
     }
-    ExtRead::Whole(ExtHeader { len, names: IpNumber(byte(w, 0)), fragmenting: false })
+    ExtRead::Whole(ExtHeader {
+        len,
+        names: IpNumber(byte(w, 0)),
+        fragmenting: false,
+    })
 }

@@ -1,12 +1,11 @@
 // The TCP header (RFC 9293, section 3.1). Its payload ends with its room.
 ghost use mathlib.Core.Path.{_≡_};
 ghost use Rattle.headers.specs.Says.{transportOnPaper, tcpSays};
+use crate::too_short;
 use crate::transport::TransportHeader;
 use crate::transport::TransportRead;
-use rules::Bound;
 use rules::Fault;
 use rules::Kind;
-use rules::Layer;
 use rules::bytes::byte;
 use rules::length;
 
@@ -15,15 +14,15 @@ pub fn read_tcp(w: &[u8]) -> TransportRead
 {
     let have = w.len();
     if have < length::TCP {
-        return TransportRead::Refused(Fault::TooShort { required: length::TCP, have, layer: Layer::Of(Kind::Tcp), bound: Bound::Room });
+        return TransportRead::Refused(too_short(Kind::Tcp, length::TCP, have));
     }
     let value = (byte(w, 12) as usize) / 16;
-    if value < 5 {
+    if value < length::LEAST_WORDS {
         return TransportRead::Refused(Fault::SmallDataOffset { value });
     }
     let len = value * 4;
     if have < len {
-        return TransportRead::Refused(Fault::TooShort { required: len, have, layer: Layer::Of(Kind::Tcp), bound: Bound::Room });
+        return TransportRead::Refused(too_short(Kind::Tcp, len, have));
     }
     TransportRead::Whole(TransportHeader { len, end: have })
 }

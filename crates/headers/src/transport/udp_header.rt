@@ -1,6 +1,7 @@
 // The UDP header (RFC 768). A length of 0 means the rest of the room (RFC 2675, section 4).
 ghost use mathlib.Core.Path.{_≡_};
 ghost use Rattle.headers.specs.Says.{transportOnPaper, udpSays};
+use crate::too_short;
 use crate::transport::TransportHeader;
 use crate::transport::TransportRead;
 use rules::Bound;
@@ -15,17 +16,33 @@ pub fn read_udp(w: &[u8]) -> TransportRead
 {
     let have = w.len();
     if have < length::UDP {
-        return TransportRead::Refused(Fault::TooShort { required: length::UDP, have, layer: Layer::Of(Kind::Udp), bound: Bound::Room });
+        return TransportRead::Refused(too_short(Kind::Udp, length::UDP, have));
     }
     let end = be16(w, 4) as usize;
     if end == 0 {
-        return TransportRead::Whole(TransportHeader { len: length::UDP, end: have });
+        return TransportRead::Whole(TransportHeader {
+            len: length::UDP,
+            end: have,
+        });
     }
     if end < length::UDP {
-        return TransportRead::Refused(Fault::TooShort { required: length::UDP, have: end, layer: Layer::Of(Kind::Udp), bound: Bound::UdpLength });
+        return TransportRead::Refused(Fault::TooShort {
+            required: length::UDP,
+            have: end,
+            layer: Layer::Of(Kind::Udp),
+            bound: Bound::UdpLength,
+        });
     }
     if have < end {
-        return TransportRead::Refused(Fault::TooShort { required: end, have, layer: Layer::UdpPayload, bound: Bound::Room });
+        return TransportRead::Refused(Fault::TooShort {
+            required: end,
+            have,
+            layer: Layer::UdpPayload,
+            bound: Bound::Room,
+        });
     }
-    TransportRead::Whole(TransportHeader { len: length::UDP, end })
+    TransportRead::Whole(TransportHeader {
+        len: length::UDP,
+        end,
+    })
 }

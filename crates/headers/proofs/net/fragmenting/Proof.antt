@@ -1,15 +1,12 @@
+-- `net::fragmenting` meets its contract. Assumes nothing.
 use borrow.Author.Tests.{eq-eqb, ne-eqb}
 use borrow.Author.Needs.{needs}
 use Rattle.headers.proofs.net.fragmenting.Statement.{statement}
 use Rattle.headers.proofs.net.fragmenting.Tie as tie
-use Rattle.headers.proofs.net.fragmenting.Reads as reads
-use Rattle.headers.proofs.net.fragmenting.Lts as lts
 
--- src/net/mod.rt:42:9
 returns : tie.Need-returns
 returns c = rw (ne-eqb _ _ (c .if1 .taken))
 
--- src/net/mod.rt:38:1
 returns-2 : tie.Need-returns-2
 returns-2 c = rw (eq-eqb _ _ (c .if1 .left))
 

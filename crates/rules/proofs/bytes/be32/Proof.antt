@@ -1,3 +1,4 @@
+-- `bytes::be32` meets its contract. Assumes nothing.
 use mathlib.Core.Path.{_≡_}
 use Prim.Native.Nat.{_+_}
 use mathlib.Core.Path.{sym}
@@ -6,55 +7,40 @@ use Rattle.rules.specs.Bytes.{byteAt, number, joined, past}
 use borrow.Author.Needs.{needs}
 use Rattle.rules.proofs.bytes.be32.Statement.{statement}
 use Rattle.rules.proofs.bytes.be32.Tie as tie
-use Rattle.rules.proofs.bytes.be32.Reads as reads
-use Rattle.rules.proofs.bytes.be32.Lts as lts
-use Rattle.rules.proofs.bytes.be16.Reads as be16-reads
 
--- src/bytes.rt:29:9
 returns : tie.Need-returns
 returns c = sym (past 4 (c .before .before .args .s .now) (c .before .before .args .at) (c .if1 .taken))
 
--- src/bytes.rt:31:16
 add-next : tie.Need-add-next
 add-next c = search needs
 
--- src/bytes.rt:32:16
 be16-requires : tie.Need-be16-requires
 be16-requires c κs = search needs
 
--- src/bytes.rt:32:16
 cast-high : tie.Need-cast-high
 cast-high c = search needs
 
--- src/bytes.rt:34:16
 mul-result : tie.Need-mul-result
 mul-result c = search needs
 
--- src/bytes.rt:34:9
 returns-2 : tie.Need-returns-2
 returns-2 c = omega (arith, joined 2 2 (byteAt (c .before .before .before .before .args .s .now)) (c .before .before .before .before .args .at), past 2 (c .before .before .before .before .args .s .now) (c .before .before .before .before .args .at + 2) (omega arith))
 
--- src/bytes.rt:36:23
 add-be16 : tie.Need-add-be16
 add-be16 c = search needs
 
--- src/bytes.rt:36:15
 be16-requires-2 : tie.Need-be16-requires-2
 be16-requires-2 c κs = search needs
 
--- src/bytes.rt:36:15
 cast-low : tie.Need-cast-low
 cast-low c = search needs
 
--- src/bytes.rt:37:5
 mul-result-2 : tie.Need-mul-result-2
 mul-result-2 c = search needs
 
--- src/bytes.rt:37:5
 add-result : tie.Need-add-result
 add-result c = search needs
 
--- src/bytes.rt:25:1
 returns-3 : tie.Need-returns-3
 returns-3 c = let i = c .before .before .before .before .before .args .at in let e : i + 1 + 1 ≡ i + 2 = omega arith in omega (arith, joined 2 2 (byteAt (c .before .before .before .before .before .args .s .now)) i, rw e at (c .be162 .ensures))
 

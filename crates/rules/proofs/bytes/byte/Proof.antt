@@ -1,20 +1,16 @@
+-- `bytes::byte` meets its contract. Assumes nothing.
 use mathlib.Core.Path.{sym}
 use lib.ListN.{List·getD-eq-default}
 use borrow.Author.Needs.{needs}
 use Rattle.rules.proofs.bytes.byte.Statement.{statement}
 use Rattle.rules.proofs.bytes.byte.Tie as tie
-use Rattle.rules.proofs.bytes.byte.Reads as reads
-use Rattle.rules.proofs.bytes.byte.Lts as lts
 
--- src/bytes.rt:9:16
 shared-slice-read-result : tie.Need-shared-slice-read-result
 shared-slice-read-result c = search needs
 
--- src/bytes.rt:9:9
 returns : tie.Need-returns
 returns c = search needs
 
--- src/bytes.rt:5:1
 returns-2 : tie.Need-returns-2
 returns-2 c = sym (List·getD-eq-default (c .before .args .s .now) 0 (c .if1 .left))
 

@@ -1,3 +1,4 @@
+-- `net::ipv6_header::read_ipv6` meets its contract. Assumes nothing.
 use Rattle.rules.specs.Bytes.{byteAt, number}
 use Prim.Native.Nat.{_+_}
 use Rattle.headers.proofs.Zeros.{is-zero, not-zero}
@@ -7,56 +8,44 @@ use native.Mathlib.Omega.{arith}
 use borrow.Author.Needs.{needs}
 use Rattle.headers.proofs.net.ipv6_header.read_ipv6.Statement.{statement}
 use Rattle.headers.proofs.net.ipv6_header.read_ipv6.Tie as tie
-use Rattle.headers.proofs.net.ipv6_header.read_ipv6.Reads as reads
-use Rattle.headers.proofs.net.ipv6_header.read_ipv6.Lts as lts
-use Rattle.rules.proofs.bytes.be16.Reads as be16-reads
-use Rattle.rules.proofs.bytes.byte.Reads as byte-reads
 
--- src/net/ipv6_header.rt:21:9
+too-short-requires : tie.Need-too-short-requires
+too-short-requires c κs = search needs
+
 returns : tie.Need-returns
 unfolding testsBy seenBy
 returns c = judged (off (omega arith) (cc))
 
--- src/net/ipv6_header.rt:23:20
 byte-requires : tie.Need-byte-requires
 byte-requires c κs = search needs
 
--- src/net/ipv6_header.rt:23:20
 cast-version : tie.Need-cast-version
 cast-version c = search needs
 
--- src/net/ipv6_header.rt:25:9
 returns-2 : tie.Need-returns-2
 unfolding testsBy seenBy
 returns-2 c = judged (on (omega arith) (off (omega arith) (cc)))
 
--- src/net/ipv6_header.rt:27:19
 be16-requires : tie.Need-be16-requires
 be16-requires c κs = search needs
 
--- src/net/ipv6_header.rt:27:19
 cast-payload : tie.Need-cast-payload
 cast-payload c = search needs
 
--- src/net/ipv6_header.rt:28:26
 byte-requires-2 : tie.Need-byte-requires-2
 byte-requires-2 c κs = search needs
 
--- src/net/ipv6_header.rt:30:9
 returns-3 : tie.Need-returns-3
 unfolding testsBy seenBy
 returns-3 c = judged (on (omega arith) (on (omega arith) (on (omega arith) (done (rw (is-zero 0 (40 + number 2 (byteAt (c .before .before .before .before .before .before .before .args .w .now)) 4) (c .before .before .be16 .ensures) (c .if3 .taken)) (cc))))))
 
--- src/net/ipv6_header.rt:32:20
 add-declared : tie.Need-add-declared
 add-declared c = search needs
 
--- src/net/ipv6_header.rt:34:9
 returns-4 : tie.Need-returns-4
 unfolding testsBy seenBy
 returns-4 c = judged (on (omega arith) (on (omega arith) (off (omega arith) (cc))))
 
--- src/net/ipv6_header.rt:16:1
 returns-5 : tie.Need-returns-5
 unfolding testsBy seenBy
 returns-5 c = judged (on (omega arith) (on (omega arith) (on (omega arith) (done (rw (not-zero 0 (40 + number 2 (byteAt (c .before .before .before .before .before .before .before .before .args .w .now)) 4) (c .before .before .before .be16 .ensures) (c .before .if3 .left)) (cc))))))
@@ -65,6 +54,7 @@ pub read-ipv6-spec : {M : Type 1} → statement M
 read-ipv6-spec =
     tie.close
     (tie.spec
+    too-short-requires
     returns
     byte-requires
     cast-version

@@ -1,67 +1,50 @@
+-- `refusal::Refusal::row` meets its contract. Assumes nothing.
 use borrow.Author.Needs.{needs}
 use Rattle.rules.proofs.refusal.Refusal.row.Statement.{statement}
 use Rattle.rules.proofs.refusal.Refusal.row.Tie as tie
-use Rattle.rules.proofs.refusal.Refusal.row.Reads as reads
-use Rattle.rules.proofs.refusal.Refusal.row.Lts as lts
-use Rattle.rules.proofs.kind.Source.number.Reads as number-reads
 
--- src/refusal.rt:83:33
 enum-known-self : tie.Need-enum-known-self
 enum-known-self c = search needs
 
--- src/refusal.rt:83:133
 number-requires : tie.Need-number-requires
 number-requires c κs = search needs
 
--- src/refusal.rt:84:36
 enum-known-self-2 : tie.Need-enum-known-self-2
 enum-known-self-2 c = search needs
 
--- src/refusal.rt:85:33
 enum-known-self-3 : tie.Need-enum-known-self-3
 enum-known-self-3 c = search needs
 
--- src/refusal.rt:86:36
 enum-known-self-4 : tie.Need-enum-known-self-4
 enum-known-self-4 c = search needs
 
--- src/refusal.rt:87:43
 enum-known-self-5 : tie.Need-enum-known-self-5
 enum-known-self-5 c = search needs
 
--- src/refusal.rt:88:39
 enum-known-self-6 : tie.Need-enum-known-self-6
 enum-known-self-6 c = search needs
 
--- src/refusal.rt:89:40
 enum-known-self-7 : tie.Need-enum-known-self-7
 enum-known-self-7 c = search needs
 
--- src/refusal.rt:79:5
 returns : tie.Need-returns
 returns c = rw (c .number .ensures, c .before .before .self .given .1)
 
--- src/refusal.rt:79:5
 returns-2 : tie.Need-returns-2
 returns-2 c = rw (c .before .self2 .given .1)
 
--- src/refusal.rt:79:5
 returns-3 : tie.Need-returns-3
 returns-3 c = rw (c .before .self3 .given .1)
 
--- src/refusal.rt:79:5
 returns-4 : tie.Need-returns-4
 returns-4 c = rw (c .before .self4 .given .1)
 
--- src/refusal.rt:79:5
 returns-5 : tie.Need-returns-5
 returns-5 c = rw (c .before .self5 .given .1)
 
--- src/refusal.rt:79:5
 returns-6 : tie.Need-returns-6
 returns-6 c = rw (c .before .self6 .given .1)
 
--- src/refusal.rt:79:5
 returns-7 : tie.Need-returns-7
 returns-7 c = rw (c .before .self7 .given .1)
 
