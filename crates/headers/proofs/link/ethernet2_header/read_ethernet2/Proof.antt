@@ -1,4 +1,6 @@
 -- `link::ethernet2_header::read_ethernet2` meets its contract. Assumes nothing.
+use mathlib.Core.Path.{refl}
+-- `link::ethernet2_header::read_ethernet2` meets its contract. Assumes nothing.
 use Rattle.rules.specs.Rules.{testsBy, seenBy}
 use Rattle.rules.specs.Test.{on, off, done, judged}
 use native.Mathlib.Omega.{arith}
@@ -18,7 +20,7 @@ be16-requires c κs = search needs
 
 returns-2 : tie.Need-returns-2
 unfolding testsBy seenBy
-returns-2 c = judged (on (omega arith) (done (cc)))
+returns-2 c = simp (← c .be16 .ensures) (judged (on (c .before .if1 .left) (done (refl))))
 
 pub read-ethernet2-spec : {M : Type 1} → statement M
 read-ethernet2-spec = tie.close (tie.spec too-short-requires returns be16-requires returns-2)

@@ -1,4 +1,6 @@
 -- `link::single_vlan_header::read_vlan` meets its contract. Assumes nothing.
+use mathlib.Core.Path.{refl}
+-- `link::single_vlan_header::read_vlan` meets its contract. Assumes nothing.
 use Rattle.rules.specs.Rules.{testsBy, seenBy}
 use Rattle.rules.specs.Test.{on, off, done, judged}
 use native.Mathlib.Omega.{arith}
@@ -18,7 +20,7 @@ be16-requires c κs = search needs
 
 returns-2 : tie.Need-returns-2
 unfolding testsBy seenBy
-returns-2 c = judged (on (omega arith) (done (cc)))
+returns-2 c = simp (← c .be16 .ensures) (judged (on (c .before .if1 .left) (done (refl))))
 
 pub read-vlan-spec : {M : Type 1} → statement M
 read-vlan-spec = tie.close (tie.spec too-short-requires returns be16-requires returns-2)

@@ -1,4 +1,6 @@
 -- `net::ipv6_fragment_header::read_fragment` meets its contract. Assumes nothing.
+use mathlib.Core.Path.{refl}
+-- `net::ipv6_fragment_header::read_fragment` meets its contract. Assumes nothing.
 use Rattle.rules.specs.Rules.{testsBy, seenBy}
 use Rattle.rules.specs.Test.{on, off, done, judged}
 use native.Mathlib.Omega.{arith}
@@ -24,7 +26,7 @@ byte-requires c κs = search needs
 
 returns-2 : tie.Need-returns-2
 unfolding testsBy seenBy
-returns-2 c = judged (on (omega arith) (done (cc)))
+returns-2 c = simp (← c .before .before .be16 .ensures, ← c .before .fragmenting .ensures, ← c .byte .ensures) (judged (on (c .before .before .before .if1 .left) (done (refl))))
 
 pub read-fragment-spec : {M : Type 1} → statement M
 read-fragment-spec =

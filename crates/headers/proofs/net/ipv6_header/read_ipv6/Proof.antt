@@ -1,7 +1,7 @@
 -- `net::ipv6_header::read_ipv6` meets its contract. Assumes nothing.
-use Rattle.rules.specs.Bytes.{byteAt, number}
-use Prim.Native.Nat.{_+_}
-use Rattle.headers.proofs.Zeros.{is-zero, not-zero}
+use borrow.Author.Tests.{eq-eqb, ne-eqb}
+use mathlib.Core.Path.{refl}
+-- `net::ipv6_header::read_ipv6` meets its contract. Assumes nothing.
 use Rattle.rules.specs.Rules.{testsBy, seenBy}
 use Rattle.rules.specs.Test.{on, off, done, judged}
 use native.Mathlib.Omega.{arith}
@@ -24,7 +24,7 @@ cast-version c = search needs
 
 returns-2 : tie.Need-returns-2
 unfolding testsBy seenBy
-returns-2 c = judged (on (omega arith) (off (omega arith) (cc)))
+returns-2 c = simp (← c .before .byte .ensures) (judged (on (c .before .before .if1 .left) (off (c .if2 .taken) (refl))))
 
 be16-requires : tie.Need-be16-requires
 be16-requires c κs = search needs
@@ -37,18 +37,18 @@ byte-requires-2 c κs = search needs
 
 returns-3 : tie.Need-returns-3
 unfolding testsBy seenBy
-returns-3 c = judged (on (omega arith) (on (omega arith) (on (omega arith) (done (rw (is-zero 0 (40 + number 2 (byteAt (c .before .before .before .before .before .before .before .args .w .now)) 4) (c .before .before .be16 .ensures) (c .if3 .taken)) (cc))))))
+returns-3 c = simp (← c .before .before .before .before .byte .ensures, ← c .before .before .be16 .ensures, ← c .before .byte2 .ensures, eq-eqb _ 0 (c .if3 .taken)) (judged (on (c .before .before .before .before .before .if1 .left) (on (c .before .before .before .if2 .left) (on (omega arith) (done (refl))))))
 
 add-declared : tie.Need-add-declared
 add-declared c = search needs
 
 returns-4 : tie.Need-returns-4
 unfolding testsBy seenBy
-returns-4 c = judged (on (omega arith) (on (omega arith) (off (omega arith) (cc))))
+returns-4 c = simp (← c .before .before .before .before .before .byte .ensures, ← c .before .before .before .be16 .ensures) (judged (on (c .before .before .before .before .before .before .if1 .left) (on (c .before .before .before .before .if2 .left) (off (omega arith) (refl)))))
 
 returns-5 : tie.Need-returns-5
 unfolding testsBy seenBy
-returns-5 c = judged (on (omega arith) (on (omega arith) (on (omega arith) (done (rw (not-zero 0 (40 + number 2 (byteAt (c .before .before .before .before .before .before .before .before .args .w .now)) 4) (c .before .before .before .be16 .ensures) (c .before .if3 .left)) (cc))))))
+returns-5 c = simp (← c .before .before .before .before .before .byte .ensures, ← c .before .before .before .be16 .ensures, ← c .before .before .byte2 .ensures, ne-eqb _ 0 (c .before .if3 .left)) (judged (on (c .before .before .before .before .before .before .if1 .left) (on (c .before .before .before .before .if2 .left) (on (c .if4 .left) (done (refl))))))
 
 pub read-ipv6-spec : {M : Type 1} → statement M
 read-ipv6-spec =

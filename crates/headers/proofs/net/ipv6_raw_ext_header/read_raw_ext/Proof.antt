@@ -1,4 +1,6 @@
 -- `net::ipv6_raw_ext_header::read_raw_ext` meets its contract. Assumes nothing.
+use mathlib.Core.Path.{refl}
+-- `net::ipv6_raw_ext_header::read_raw_ext` meets its contract. Assumes nothing.
 use Rattle.rules.specs.Rules.{testsBy, seenBy}
 use Rattle.rules.specs.Test.{on, off, done, judged}
 use native.Mathlib.Omega.{arith}
@@ -30,14 +32,14 @@ too-short-requires-2 c κs = search needs
 
 returns-2 : tie.Need-returns-2
 unfolding testsBy seenBy
-returns-2 c = judged (on (omega arith) (off (omega arith) (cc)))
+returns-2 c = simp (← c .before .before .byte .ensures) (judged (on (c .before .before .before .if1 .left) (off (omega arith) (cc))))
 
 byte-requires-2 : tie.Need-byte-requires-2
 byte-requires-2 c κs = search needs
 
 returns-3 : tie.Need-returns-3
 unfolding testsBy seenBy
-returns-3 c = judged (on (omega arith) (on (omega arith) (done (cc))))
+returns-3 c = simp (← c .before .before .byte .ensures, ← c .byte2 .ensures) (judged (on (c .before .before .before .if1 .left) (on (c .before .if2 .left) (done (refl)))))
 
 pub read-raw-ext-spec : {M : Type 1} → statement M
 read-raw-ext-spec =

@@ -1,4 +1,6 @@
 -- `transport::tcp_header::read_tcp` meets its contract. Assumes nothing.
+use mathlib.Core.Path.{refl}
+-- `transport::tcp_header::read_tcp` meets its contract. Assumes nothing.
 use Rattle.rules.specs.Rules.{testsBy, seenBy}
 use Rattle.rules.specs.Test.{on, off, done, judged}
 use native.Mathlib.Omega.{arith}
@@ -21,7 +23,7 @@ cast-value c = search needs
 
 returns-2 : tie.Need-returns-2
 unfolding testsBy seenBy
-returns-2 c = judged (on (omega arith) (off (omega arith) (cc)))
+returns-2 c = simp (← c .before .byte .ensures) (judged (on (c .before .before .if1 .left) (off (omega arith) (refl))))
 
 mul-len : tie.Need-mul-len
 mul-len c = search needs
@@ -31,11 +33,11 @@ too-short-requires-2 c κs = search needs
 
 returns-3 : tie.Need-returns-3
 unfolding testsBy seenBy
-returns-3 c = judged (on (omega arith) (on (omega arith) (off (omega arith) (cc))))
+returns-3 c = simp (← c .before .before .before .byte .ensures) (judged (on (c .before .before .before .before .if1 .left) (on (c .before .before .if2 .left) (off (omega arith) (cc)))))
 
 returns-4 : tie.Need-returns-4
 unfolding testsBy seenBy
-returns-4 c = judged (on (omega arith) (on (omega arith) (on (omega arith) (done (cc)))))
+returns-4 c = simp (← c .before .before .byte .ensures) (judged (on (c .before .before .before .if1 .left) (on (c .before .if2 .left) (on (c .if3 .left) (done (refl))))))
 
 pub read-tcp-spec : {M : Type 1} → statement M
 read-tcp-spec =

@@ -1,7 +1,7 @@
 -- `transport::udp_header::read_udp` meets its contract. Assumes nothing.
-use lib.ListN.{length}
-use Rattle.rules.specs.Bytes.{byteAt, number}
-use Rattle.headers.proofs.Zeros.{is-zero, not-zero}
+use borrow.Author.Tests.{eq-eqb, ne-eqb}
+use mathlib.Core.Path.{refl}
+-- `transport::udp_header::read_udp` meets its contract. Assumes nothing.
 use Rattle.rules.specs.Rules.{testsBy, seenBy}
 use Rattle.rules.specs.Test.{on, off, done, judged}
 use native.Mathlib.Omega.{arith}
@@ -24,19 +24,19 @@ cast-end c = search needs
 
 returns-2 : tie.Need-returns-2
 unfolding testsBy seenBy
-returns-2 c = let z = is-zero (length (c .before .before .before .before .args .w .now)) (number 2 (byteAt (c .before .before .before .before .args .w .now)) 4) (c .before .be16 .ensures) (c .if2 .taken) in judged (on (omega arith) (on (omega (arith, z)) (on (omega (arith, z)) (done (rw z)))))
+returns-2 c = simp (← c .before .be16 .ensures, eq-eqb _ 0 (c .if2 .taken)) (judged (on (c .before .before .if1 .left) (on (c .before .before .if1 .left) (on (omega arith) (done (refl))))))
 
 returns-3 : tie.Need-returns-3
 unfolding testsBy seenBy
-returns-3 c = let z = not-zero (length (c .before .before .before .before .before .args .w .now)) (number 2 (byteAt (c .before .before .before .before .before .args .w .now)) 4) (c .before .before .be16 .ensures) (c .before .if2 .left) in judged (on (omega arith) (off (omega (arith, z)) (rw z (cc))))
+returns-3 c = simp (← c .before .before .be16 .ensures, ne-eqb _ 0 (c .before .if2 .left)) (judged (on (c .before .before .before .if1 .left) (off (omega arith) (refl))))
 
 returns-4 : tie.Need-returns-4
 unfolding testsBy seenBy
-returns-4 c = let z = not-zero (length (c .before .before .before .before .before .before .args .w .now)) (number 2 (byteAt (c .before .before .before .before .before .before .args .w .now)) 4) (c .before .before .before .be16 .ensures) (c .before .before .if2 .left) in judged (on (omega arith) (on (omega (arith, z)) (off (omega (arith, z)) (rw z (cc)))))
+returns-4 c = simp (← c .before .before .before .be16 .ensures, ne-eqb _ 0 (c .before .before .if2 .left)) (judged (on (c .before .before .before .before .if1 .left) (on (c .before .if3 .left) (off (omega arith) (refl)))))
 
 returns-5 : tie.Need-returns-5
 unfolding testsBy seenBy
-returns-5 c = let z = not-zero (length (c .before .before .before .before .before .before .args .w .now)) (number 2 (byteAt (c .before .before .before .before .before .before .args .w .now)) 4) (c .before .before .before .be16 .ensures) (c .before .before .if2 .left) in judged (on (omega arith) (on (omega (arith, z)) (on (omega (arith, z)) (done (rw z (cc))))))
+returns-5 c = simp (← c .before .before .before .be16 .ensures, ne-eqb _ 0 (c .before .before .if2 .left)) (judged (on (c .before .before .before .before .if1 .left) (on (c .before .if3 .left) (on (c .if4 .left) (done (refl))))))
 
 pub read-udp-spec : {M : Type 1} → statement M
 read-udp-spec =
