@@ -1,16 +1,15 @@
 -- What the readers say, from the table of crate rules: the fields of a header that passes its tests, or the first failed.
 use Prim.Native.Nat.{ℕ}
 use mathlib.Core.List.{List}
-use lib.ListN.{length}
 use Rattle.rules.specs.declared.ether_type.EtherType.{EtherType}
 use Rattle.rules.specs.declared.ip_number.IpNumber.{IpNumber}
 use Rattle.rules.specs.declared.kind.Kind.{Kind}
 use Rattle.rules.specs.declared.kind.Kind.the-variants.{Udp, Tcp}
 use Rattle.rules.specs.declared.place.Number.{Number}
 use Rattle.rules.specs.declared.place.Number.the-variants.{Link, Ip}
-use Rattle.rules.specs.Test.{Outcome, whole, failed, judge}
+use Rattle.rules.specs.Test.{Outcome, whole, failed}
 use Rattle.rules.specs.Paper.{faultOnPaper}
-use Rattle.rules.specs.Rules.{Rule, rule, rawRule, etherType, ipNumber, udpEnd, tcpEnd, seenBy, testsBy}
+use Rattle.rules.specs.Rules.{Rule, rule, rawRule, etherType, ipNumber, udpEnd, tcpEnd, says}
 use Rattle.headers.specs.declared.link.LinkRead.{LinkRead}
 use Rattle.headers.specs.declared.link.LinkRead.the-variants as L
 use Rattle.headers.specs.declared.net.IpHeader.{IpHeader}
@@ -62,10 +61,6 @@ abbrev pub transportFields : Rule → (ends : (ℕ → ℕ) → ℕ → ℕ) →
 transportFields r ends g have = record { len = r .length g; end = ends g have }
 
 -- ---- what is said of the bytes w
-
--- of the bytes that decide, the fields; or the first test that failed (no test of the base asks for the IP version: 0)
-abbrev pub says : {A : Type 0} → Kind → Rule → ((ℕ → ℕ) → ℕ → A) → List ℕ → Outcome A
-says k r fields w = judge (testsBy k r 0 (seenBy r w) (length w)) (fields (seenBy r w) (length w))
 
 abbrev pub linkSays : Kind → List ℕ → Outcome EtherType
 linkSays k = says k (rule k) (λ g have. linkNumber (rule k .names g))

@@ -3,6 +3,7 @@ use Prim.Native.Nat.{ℕ, _+_, _-_, _*_, _/_, _%_}
 use mathlib.Core.List.{List, [], _∷_}
 use mathlib.Core.Bool.{Bool, true, false, _||_, not}
 use lib.Dec.{ltb, eqb}
+use lib.ListN.{length}
 use Rattle.rules.specs.declared.ether_type.EtherType.{EtherType}
 use Rattle.rules.specs.declared.ip_number.IpNumber.{IpNumber}
 use Rattle.rules.specs.declared.kind.Kind.{Kind}
@@ -14,7 +15,7 @@ use Rattle.rules.specs.declared.place.Room.{Room}
 use Rattle.rules.specs.declared.refusal.Bound.the-variants as B
 use Rattle.rules.specs.Bytes.{number, byteAt}
 use Rattle.rules.specs.Numbers
-use Rattle.rules.specs.Test.{pick, Test, fits, least, same, other}
+use Rattle.rules.specs.Test.{pick, Test, fits, least, same, other, Outcome, judge}
 
 -- ---- what a number leads to
 
@@ -301,3 +302,8 @@ testsBy k r v g have = fits (Of k) (r .least) have B.Room ∷ r .later v g have
 
 abbrev pub tests : Kind → ℕ → (ℕ → ℕ) → ℕ → List Test
 tests k = testsBy k (rule k)
+
+-- what a reader says of the bytes w that it is handed, by a rule: the fields, of the bytes that decide; or the first test
+-- that failed (no test of the base asks for the IP version: 0)
+unfoldable pub says : {A : Type 0} → Kind → Rule → ((ℕ → ℕ) → ℕ → A) → List ℕ → Outcome A
+says k r fields w = judge (testsBy k r 0 (seenBy r w) (length w)) (fields (seenBy r w) (length w))

@@ -1,7 +1,7 @@
 -- `link::single_vlan_header::read_vlan` meets its contract. Assumes nothing.
 use mathlib.Core.Path.{refl}
 -- `link::single_vlan_header::read_vlan` meets its contract. Assumes nothing.
-use Rattle.rules.specs.Rules.{testsBy, seenBy}
+use Rattle.rules.specs.Rules.{says, testsBy, seenBy}
 use Rattle.rules.specs.Test.{on, off, done, judged}
 use native.Mathlib.Omega.{arith}
 use borrow.Author.Needs.{needs}
@@ -12,14 +12,14 @@ too-short-requires : tie.Need-too-short-requires
 too-short-requires c κs = search needs
 
 returns : tie.Need-returns
-unfolding testsBy seenBy
+unfolding says testsBy seenBy
 returns c = judged (off (omega arith) (cc))
 
 be16-requires : tie.Need-be16-requires
 be16-requires c κs = search needs
 
 returns-2 : tie.Need-returns-2
-unfolding testsBy seenBy
+unfolding says testsBy seenBy
 returns-2 c = simp (← c .be16 .ensures) (judged (on (c .before .if1 .left) (done (refl))))
 
 pub read-vlan-spec : {M : Type 1} → statement M

@@ -1,7 +1,7 @@
 -- `net::ip_auth_header::read_auth` meets its contract. Assumes nothing.
 use mathlib.Core.Path.{refl}
 -- `net::ip_auth_header::read_auth` meets its contract. Assumes nothing.
-use Rattle.rules.specs.Rules.{testsBy, seenBy}
+use Rattle.rules.specs.Rules.{says, testsBy, seenBy}
 use Rattle.rules.specs.Test.{on, off, done, judged}
 use native.Mathlib.Omega.{arith}
 use borrow.Author.Needs.{needs}
@@ -12,7 +12,7 @@ too-short-requires : tie.Need-too-short-requires
 too-short-requires c κs = search needs
 
 returns : tie.Need-returns
-unfolding testsBy seenBy
+unfolding says testsBy seenBy
 returns c = judged (off (omega arith) (cc))
 
 byte-requires : tie.Need-byte-requires
@@ -22,7 +22,7 @@ cast-words : tie.Need-cast-words
 cast-words c = search needs
 
 returns-2 : tie.Need-returns-2
-unfolding testsBy seenBy
+unfolding says testsBy seenBy
 returns-2 c = simp (← c .before .byte .ensures) (judged (on (c .before .before .if1 .left) (off (omega arith) (refl))))
 
 add-len : tie.Need-add-len
@@ -35,14 +35,14 @@ too-short-requires-2 : tie.Need-too-short-requires-2
 too-short-requires-2 c κs = search needs
 
 returns-3 : tie.Need-returns-3
-unfolding testsBy seenBy
+unfolding says testsBy seenBy
 returns-3 c = simp (← c .before .before .before .byte .ensures) (judged (on (c .before .before .before .before .if1 .left) (on (omega arith) (off (omega arith) (cc)))))
 
 byte-requires-2 : tie.Need-byte-requires-2
 byte-requires-2 c κs = search needs
 
 returns-4 : tie.Need-returns-4
-unfolding testsBy seenBy
+unfolding says testsBy seenBy
 returns-4 c = simp (← c .before .before .before .byte .ensures, ← c .byte2 .ensures) (judged (on (c .before .before .before .before .if1 .left) (on (omega arith) (on (c .before .if3 .left) (done (refl))))))
 
 pub read-auth-spec : {M : Type 1} → statement M

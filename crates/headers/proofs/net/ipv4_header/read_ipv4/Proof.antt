@@ -1,7 +1,7 @@
 -- `net::ipv4_header::read_ipv4` meets its contract. Assumes nothing.
 use mathlib.Core.Path.{refl}
 -- `net::ipv4_header::read_ipv4` meets its contract. Assumes nothing.
-use Rattle.rules.specs.Rules.{testsBy, seenBy}
+use Rattle.rules.specs.Rules.{says, testsBy, seenBy}
 use Rattle.rules.specs.Test.{on, off, done, judged}
 use native.Mathlib.Omega.{arith}
 use borrow.Author.Needs.{needs}
@@ -12,7 +12,7 @@ too-short-requires : tie.Need-too-short-requires
 too-short-requires c κs = search needs
 
 returns : tie.Need-returns
-unfolding testsBy seenBy
+unfolding says testsBy seenBy
 returns c = judged (off (omega arith) (cc))
 
 byte-requires : tie.Need-byte-requires
@@ -22,11 +22,11 @@ cast-first : tie.Need-cast-first
 cast-first c = search needs
 
 returns-2 : tie.Need-returns-2
-unfolding testsBy seenBy
+unfolding says testsBy seenBy
 returns-2 c = simp (← c .before .byte .ensures) (judged (on (c .before .before .if1 .left) (off (c .if2 .taken) (refl))))
 
 returns-3 : tie.Need-returns-3
-unfolding testsBy seenBy
+unfolding says testsBy seenBy
 returns-3 c = simp (← c .before .before .byte .ensures) (judged (on (c .before .before .before .if1 .left) (on (c .before .if2 .left) (off (omega arith) (refl)))))
 
 mul-len : tie.Need-mul-len
@@ -36,7 +36,7 @@ too-short-requires-2 : tie.Need-too-short-requires-2
 too-short-requires-2 c κs = search needs
 
 returns-4 : tie.Need-returns-4
-unfolding testsBy seenBy
+unfolding says testsBy seenBy
 returns-4 c = simp (← c .before .before .before .before .byte .ensures) (judged (on (c .before .before .before .before .before .if1 .left) (on (c .before .before .before .if2 .left) (on (c .before .before .if3 .left) (off (omega arith) (cc))))))
 
 be16-requires : tie.Need-be16-requires
@@ -46,11 +46,11 @@ cast-total : tie.Need-cast-total
 cast-total c = search needs
 
 returns-5 : tie.Need-returns-5
-unfolding testsBy seenBy
+unfolding says testsBy seenBy
 returns-5 c = simp (← c .before .before .before .before .before .byte .ensures, ← c .before .be16 .ensures) (judged (on (c .before .before .before .before .before .before .if1 .left) (on (c .before .before .before .before .if2 .left) (on (c .before .before .before .if3 .left) (on (c .before .before .if4 .left) (off (omega arith) (refl)))))))
 
 returns-6 : tie.Need-returns-6
-unfolding testsBy seenBy
+unfolding says testsBy seenBy
 returns-6 c = simp (← c .before .before .before .before .before .before .byte .ensures, ← c .before .before .be16 .ensures) (judged (on (c .before .before .before .before .before .before .before .if1 .left) (on (c .before .before .before .before .before .if2 .left) (on (c .before .before .before .before .if3 .left) (on (c .before .before .before .if4 .left) (on (c .before .if5 .left) (off (omega arith) (refl))))))))
 
 be16-requires-2 : tie.Need-be16-requires-2
@@ -63,7 +63,7 @@ byte-requires-2 : tie.Need-byte-requires-2
 byte-requires-2 c κs = search needs
 
 returns-7 : tie.Need-returns-7
-unfolding testsBy seenBy
+unfolding says testsBy seenBy
 returns-7 c = simp (← c .before .before .before .before .before .before .before .before .before .byte .ensures, ← c .before .before .before .before .before .be16 .ensures, ← c .before .before .be162 .ensures, ← c .before .fragmenting .ensures, ← c .byte2 .ensures) (judged (on (c .before .before .before .before .before .before .before .before .before .before .if1 .left) (on (c .before .before .before .before .before .before .before .before .if2 .left) (on (c .before .before .before .before .before .before .before .if3 .left) (on (c .before .before .before .before .before .before .if4 .left) (on (c .before .before .before .before .if5 .left) (on (c .before .before .before .if6 .left) (done (refl)))))))))
 
 pub read-ipv4-spec : {M : Type 1} → statement M

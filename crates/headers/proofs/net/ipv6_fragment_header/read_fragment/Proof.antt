@@ -1,7 +1,7 @@
 -- `net::ipv6_fragment_header::read_fragment` meets its contract. Assumes nothing.
 use mathlib.Core.Path.{refl}
 -- `net::ipv6_fragment_header::read_fragment` meets its contract. Assumes nothing.
-use Rattle.rules.specs.Rules.{testsBy, seenBy}
+use Rattle.rules.specs.Rules.{says, testsBy, seenBy}
 use Rattle.rules.specs.Test.{on, off, done, judged}
 use native.Mathlib.Omega.{arith}
 use borrow.Author.Needs.{needs}
@@ -12,7 +12,7 @@ too-short-requires : tie.Need-too-short-requires
 too-short-requires c κs = search needs
 
 returns : tie.Need-returns
-unfolding testsBy seenBy
+unfolding says testsBy seenBy
 returns c = judged (off (omega arith) (cc))
 
 be16-requires : tie.Need-be16-requires
@@ -25,7 +25,7 @@ byte-requires : tie.Need-byte-requires
 byte-requires c κs = search needs
 
 returns-2 : tie.Need-returns-2
-unfolding testsBy seenBy
+unfolding says testsBy seenBy
 returns-2 c = simp (← c .before .before .be16 .ensures, ← c .before .fragmenting .ensures, ← c .byte .ensures) (judged (on (c .before .before .before .if1 .left) (done (refl))))
 
 pub read-fragment-spec : {M : Type 1} → statement M

@@ -2,7 +2,7 @@
 use borrow.Author.Tests.{eq-eqb, ne-eqb}
 use mathlib.Core.Path.{refl}
 -- `net::ipv6_header::read_ipv6` meets its contract. Assumes nothing.
-use Rattle.rules.specs.Rules.{testsBy, seenBy}
+use Rattle.rules.specs.Rules.{says, testsBy, seenBy}
 use Rattle.rules.specs.Test.{on, off, done, judged}
 use native.Mathlib.Omega.{arith}
 use borrow.Author.Needs.{needs}
@@ -13,7 +13,7 @@ too-short-requires : tie.Need-too-short-requires
 too-short-requires c κs = search needs
 
 returns : tie.Need-returns
-unfolding testsBy seenBy
+unfolding says testsBy seenBy
 returns c = judged (off (omega arith) (cc))
 
 byte-requires : tie.Need-byte-requires
@@ -23,7 +23,7 @@ cast-version : tie.Need-cast-version
 cast-version c = search needs
 
 returns-2 : tie.Need-returns-2
-unfolding testsBy seenBy
+unfolding says testsBy seenBy
 returns-2 c = simp (← c .before .byte .ensures) (judged (on (c .before .before .if1 .left) (off (c .if2 .taken) (refl))))
 
 be16-requires : tie.Need-be16-requires
@@ -36,18 +36,18 @@ byte-requires-2 : tie.Need-byte-requires-2
 byte-requires-2 c κs = search needs
 
 returns-3 : tie.Need-returns-3
-unfolding testsBy seenBy
+unfolding says testsBy seenBy
 returns-3 c = simp (← c .before .before .before .before .byte .ensures, ← c .before .before .be16 .ensures, ← c .before .byte2 .ensures, eq-eqb _ 0 (c .if3 .taken)) (judged (on (c .before .before .before .before .before .if1 .left) (on (c .before .before .before .if2 .left) (on (omega arith) (done (refl))))))
 
 add-declared : tie.Need-add-declared
 add-declared c = search needs
 
 returns-4 : tie.Need-returns-4
-unfolding testsBy seenBy
+unfolding says testsBy seenBy
 returns-4 c = simp (← c .before .before .before .before .before .byte .ensures, ← c .before .before .before .be16 .ensures) (judged (on (c .before .before .before .before .before .before .if1 .left) (on (c .before .before .before .before .if2 .left) (off (omega arith) (refl)))))
 
 returns-5 : tie.Need-returns-5
-unfolding testsBy seenBy
+unfolding says testsBy seenBy
 returns-5 c = simp (← c .before .before .before .before .before .byte .ensures, ← c .before .before .before .be16 .ensures, ← c .before .before .byte2 .ensures, ne-eqb _ 0 (c .before .if3 .left)) (judged (on (c .before .before .before .before .before .before .if1 .left) (on (c .before .before .before .before .if2 .left) (on (c .if4 .left) (done (refl))))))
 
 pub read-ipv6-spec : {M : Type 1} → statement M

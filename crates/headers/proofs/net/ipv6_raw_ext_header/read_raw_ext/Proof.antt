@@ -1,7 +1,7 @@
 -- `net::ipv6_raw_ext_header::read_raw_ext` meets its contract. Assumes nothing.
 use mathlib.Core.Path.{refl}
 -- `net::ipv6_raw_ext_header::read_raw_ext` meets its contract. Assumes nothing.
-use Rattle.rules.specs.Rules.{testsBy, seenBy}
+use Rattle.rules.specs.Rules.{says, testsBy, seenBy}
 use Rattle.rules.specs.Test.{on, off, done, judged}
 use native.Mathlib.Omega.{arith}
 use borrow.Author.Needs.{needs}
@@ -12,7 +12,7 @@ too-short-requires : tie.Need-too-short-requires
 too-short-requires c κs = search needs
 
 returns : tie.Need-returns
-unfolding testsBy seenBy
+unfolding says testsBy seenBy
 returns c = judged (off (omega arith) (cc))
 
 byte-requires : tie.Need-byte-requires
@@ -31,14 +31,14 @@ too-short-requires-2 : tie.Need-too-short-requires-2
 too-short-requires-2 c κs = search needs
 
 returns-2 : tie.Need-returns-2
-unfolding testsBy seenBy
+unfolding says testsBy seenBy
 returns-2 c = simp (← c .before .before .byte .ensures) (judged (on (c .before .before .before .if1 .left) (off (omega arith) (cc))))
 
 byte-requires-2 : tie.Need-byte-requires-2
 byte-requires-2 c κs = search needs
 
 returns-3 : tie.Need-returns-3
-unfolding testsBy seenBy
+unfolding says testsBy seenBy
 returns-3 c = simp (← c .before .before .byte .ensures, ← c .byte2 .ensures) (judged (on (c .before .before .before .if1 .left) (on (c .before .if2 .left) (done (refl)))))
 
 pub read-raw-ext-spec : {M : Type 1} → statement M

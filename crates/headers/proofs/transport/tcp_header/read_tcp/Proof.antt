@@ -1,7 +1,7 @@
 -- `transport::tcp_header::read_tcp` meets its contract. Assumes nothing.
 use mathlib.Core.Path.{refl}
 -- `transport::tcp_header::read_tcp` meets its contract. Assumes nothing.
-use Rattle.rules.specs.Rules.{testsBy, seenBy}
+use Rattle.rules.specs.Rules.{says, testsBy, seenBy}
 use Rattle.rules.specs.Test.{on, off, done, judged}
 use native.Mathlib.Omega.{arith}
 use borrow.Author.Needs.{needs}
@@ -12,7 +12,7 @@ too-short-requires : tie.Need-too-short-requires
 too-short-requires c κs = search needs
 
 returns : tie.Need-returns
-unfolding testsBy seenBy
+unfolding says testsBy seenBy
 returns c = judged (off (omega arith) (cc))
 
 byte-requires : tie.Need-byte-requires
@@ -22,7 +22,7 @@ cast-value : tie.Need-cast-value
 cast-value c = search needs
 
 returns-2 : tie.Need-returns-2
-unfolding testsBy seenBy
+unfolding says testsBy seenBy
 returns-2 c = simp (← c .before .byte .ensures) (judged (on (c .before .before .if1 .left) (off (omega arith) (refl))))
 
 mul-len : tie.Need-mul-len
@@ -32,11 +32,11 @@ too-short-requires-2 : tie.Need-too-short-requires-2
 too-short-requires-2 c κs = search needs
 
 returns-3 : tie.Need-returns-3
-unfolding testsBy seenBy
+unfolding says testsBy seenBy
 returns-3 c = simp (← c .before .before .before .byte .ensures) (judged (on (c .before .before .before .before .if1 .left) (on (c .before .before .if2 .left) (off (omega arith) (cc)))))
 
 returns-4 : tie.Need-returns-4
-unfolding testsBy seenBy
+unfolding says testsBy seenBy
 returns-4 c = simp (← c .before .before .byte .ensures) (judged (on (c .before .before .before .if1 .left) (on (c .before .if2 .left) (on (c .if3 .left) (done (refl))))))
 
 pub read-tcp-spec : {M : Type 1} → statement M

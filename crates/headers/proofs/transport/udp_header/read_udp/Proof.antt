@@ -2,7 +2,7 @@
 use borrow.Author.Tests.{eq-eqb, ne-eqb}
 use mathlib.Core.Path.{refl}
 -- `transport::udp_header::read_udp` meets its contract. Assumes nothing.
-use Rattle.rules.specs.Rules.{testsBy, seenBy}
+use Rattle.rules.specs.Rules.{says, testsBy, seenBy}
 use Rattle.rules.specs.Test.{on, off, done, judged}
 use native.Mathlib.Omega.{arith}
 use borrow.Author.Needs.{needs}
@@ -13,7 +13,7 @@ too-short-requires : tie.Need-too-short-requires
 too-short-requires c κs = search needs
 
 returns : tie.Need-returns
-unfolding testsBy seenBy
+unfolding says testsBy seenBy
 returns c = judged (off (omega arith) (cc))
 
 be16-requires : tie.Need-be16-requires
@@ -23,19 +23,19 @@ cast-end : tie.Need-cast-end
 cast-end c = search needs
 
 returns-2 : tie.Need-returns-2
-unfolding testsBy seenBy
+unfolding says testsBy seenBy
 returns-2 c = simp (← c .before .be16 .ensures, eq-eqb _ 0 (c .if2 .taken)) (judged (on (c .before .before .if1 .left) (on (c .before .before .if1 .left) (on (omega arith) (done (refl))))))
 
 returns-3 : tie.Need-returns-3
-unfolding testsBy seenBy
+unfolding says testsBy seenBy
 returns-3 c = simp (← c .before .before .be16 .ensures, ne-eqb _ 0 (c .before .if2 .left)) (judged (on (c .before .before .before .if1 .left) (off (omega arith) (refl))))
 
 returns-4 : tie.Need-returns-4
-unfolding testsBy seenBy
+unfolding says testsBy seenBy
 returns-4 c = simp (← c .before .before .before .be16 .ensures, ne-eqb _ 0 (c .before .before .if2 .left)) (judged (on (c .before .before .before .before .if1 .left) (on (c .before .if3 .left) (off (omega arith) (refl)))))
 
 returns-5 : tie.Need-returns-5
-unfolding testsBy seenBy
+unfolding says testsBy seenBy
 returns-5 c = simp (← c .before .before .before .be16 .ensures, ne-eqb _ 0 (c .before .before .if2 .left)) (judged (on (c .before .before .before .before .if1 .left) (on (c .before .if3 .left) (on (c .if4 .left) (done (refl))))))
 
 pub read-udp-spec : {M : Type 1} → statement M

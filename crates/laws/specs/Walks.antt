@@ -1,0 +1,32 @@
+-- The walk, one header at a time, with no word of its fuel.
+use Prim.Native.Nat.{ℕ, zero, suc, _<_, _-_}
+use mathlib.Core.Path.{_≡_, refl, ap}
+use mathlib.Core.List.{List}
+use native.Mathlib.Omega.{arith}
+use Rattle.rules.specs.declared.place.Place.{Place}
+use Rattle.rules.specs.Place.{Follow, next, halt, wrong, Found, Reading, reads, refuses, read}
+use Rattle.rules.specs.Walk.{Trace, Entry, entry, behind, onwardBy, step, walk, trace}
+use Rattle.laws.specs.Reads.{goes}
+
+onward-same : (x : Follow) (f g : Place → Trace Entry) → ((q : Place) → x ≡ next q → f q ≡ g q) → onwardBy f x ≡ onwardBy g x
+onward-same (next q) f g h = h q refl
+onward-same (halt x) f g h = refl
+onward-same (wrong r) f g h = refl
+
+-- two walks that agree behind every next place agree
+step-same : (p : Place) (r : Reading) (f g : Place → Trace Entry) → ((x : Found) (q : Place) → r ≡ reads x → x .follow ≡ next q → f q ≡ g q) → step p r f ≡ step p r g
+step-same p (refuses r) f g h = refl
+step-same p (reads x) f g h = ap (behind (entry p x)) (onward-same (x .follow) f g (λ q e. h x q refl e))
+
+enough : (n m : ℕ) (s : List ℕ) (p : Place) → p .room .end - p .at < n → p .room .end - p .at < m → walk n s p ≡ walk m s p
+unfolding walk
+enough zero m s p a b = absurd (omega arith)
+enough (suc n) zero s p a b = absurd (omega arith)
+enough (suc n) (suc m) s p a b =
+    step-same p (read s p) (walk n s) (walk m s) (λ x q e f. let z = goes s p e f in enough n m s q (omega arith) (omega arith))
+
+pub trace-step : (s : List ℕ) (p : Place) → trace s p ≡ step p (read s p) (trace s)
+unfolding trace walk
+trace-step s p =
+    step-same p (read s p) (walk (p .room .end - p .at) s) (trace s)
+    (λ x q e f. let z = goes s p e f in enough (p .room .end - p .at) (suc (q .room .end - q .at)) s q (omega arith) (omega arith))
