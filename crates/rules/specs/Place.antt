@@ -57,12 +57,12 @@ leaves k g at p =
 
 -- ---- what follows
 
--- why the walk stopped, the number that names the payload, and the payload's range
+-- why the walk stopped, the number that names the payload, and the payload's offset and length
 pub record Stopped : Type 0 where
   pub why : ℕ
   pub number : Number
-  pub from : ℕ
-  pub to : ℕ
+  pub at : ℕ
+  pub len : ℕ
 
 pub data Follow : Type 0 where
   next : Place → Follow
@@ -75,7 +75,7 @@ place k at p = record { at = at; room = p; kind = k }
 -- in the room p, at the offset `past`, by a turn, the number n and where the payload would end
 unfoldable pub follow : Turn → Room → ℕ → Number → ℕ → Follow
 follow (opens k) p past n to = next (place k past (entered k p))
-follow (stops why) p past n to = halt (record { why = why; number = n; from = past; to = to })
+follow (stops why) p past n to = halt (record { why = why; number = n; at = past; len = to - past })
 follow late p past n to = wrong (placed (other hopByHopNotAtStart (Of HopByHop) 0) past (p .source))
 
 -- behind a header of kind k at `at` that showed the bytes g and left the room p

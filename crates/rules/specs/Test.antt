@@ -96,7 +96,7 @@ judge (t ∷ ts) x = pick (passes t) (judge ts x) (failed (failure t))
 
 -- ---- laws for a reader's returns: a test that holds is passed over, one that does not is the answer
 
-pass : (t : Test) → Holds t → passes t ≡ true
+pub pass : (t : Test) → Holds t → passes t ≡ true
 pass (fits l a b w) h = le-leb a b h
 pass (least a b f) h = le-leb a b h
 pass (same a b f) h = eq-eqb a b h

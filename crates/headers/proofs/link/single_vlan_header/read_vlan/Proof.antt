@@ -1,6 +1,5 @@
 -- `link::single_vlan_header::read_vlan` meets its contract. Assumes nothing.
 use mathlib.Core.Path.{refl}
--- `link::single_vlan_header::read_vlan` meets its contract. Assumes nothing.
 use Rattle.rules.specs.Rules.{says, testsBy, seenBy}
 use Rattle.rules.specs.Test.{on, off, done, judged}
 use native.Mathlib.Omega.{arith}

@@ -1,6 +1,5 @@
 -- `net::ip_auth_header::read_auth` meets its contract. Assumes nothing.
 use mathlib.Core.Path.{refl}
--- `net::ip_auth_header::read_auth` meets its contract. Assumes nothing.
 use Rattle.rules.specs.Rules.{says, testsBy, seenBy}
 use Rattle.rules.specs.Test.{on, off, done, judged}
 use native.Mathlib.Omega.{arith}

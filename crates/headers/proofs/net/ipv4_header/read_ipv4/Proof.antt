@@ -1,6 +1,5 @@
 -- `net::ipv4_header::read_ipv4` meets its contract. Assumes nothing.
 use mathlib.Core.Path.{refl}
--- `net::ipv4_header::read_ipv4` meets its contract. Assumes nothing.
 use Rattle.rules.specs.Rules.{says, testsBy, seenBy}
 use Rattle.rules.specs.Test.{on, off, done, judged}
 use native.Mathlib.Omega.{arith}

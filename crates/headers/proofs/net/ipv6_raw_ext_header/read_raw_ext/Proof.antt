@@ -1,6 +1,5 @@
 -- `net::ipv6_raw_ext_header::read_raw_ext` meets its contract. Assumes nothing.
 use mathlib.Core.Path.{refl}
--- `net::ipv6_raw_ext_header::read_raw_ext` meets its contract. Assumes nothing.
 use Rattle.rules.specs.Rules.{says, testsBy, seenBy}
 use Rattle.rules.specs.Test.{on, off, done, judged}
 use native.Mathlib.Omega.{arith}

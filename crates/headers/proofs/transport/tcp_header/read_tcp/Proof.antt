@@ -1,6 +1,5 @@
 -- `transport::tcp_header::read_tcp` meets its contract. Assumes nothing.
 use mathlib.Core.Path.{refl}
--- `transport::tcp_header::read_tcp` meets its contract. Assumes nothing.
 use Rattle.rules.specs.Rules.{says, testsBy, seenBy}
 use Rattle.rules.specs.Test.{on, off, done, judged}
 use native.Mathlib.Omega.{arith}

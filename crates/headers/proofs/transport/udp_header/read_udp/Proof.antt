@@ -1,7 +1,6 @@
 -- `transport::udp_header::read_udp` meets its contract. Assumes nothing.
 use borrow.Author.Tests.{eq-eqb, ne-eqb}
 use mathlib.Core.Path.{refl}
--- `transport::udp_header::read_udp` meets its contract. Assumes nothing.
 use Rattle.rules.specs.Rules.{says, testsBy, seenBy}
 use Rattle.rules.specs.Test.{on, off, done, judged}
 use native.Mathlib.Omega.{arith}
