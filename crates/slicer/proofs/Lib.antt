@@ -1,0 +1,8 @@
+-- Laws that several proofs of this crate cite.
+pub mod Answers
+pub mod Reading
+pub mod Links
+pub mod Nets
+pub mod Exts
+pub mod Carries
+pub mod Slices

@@ -1,0 +1,26 @@
+-- `refuse::refuse_transport` meets its contract. Assumes nothing.
+use Rattle.slicer.proofs.Answers.{placed-same, not-whole}
+use Rattle.headers.specs.Says.{transportOnPaper}
+use mathlib.Core.Path.{ap}
+use borrow.Author.Needs.{needs}
+use Rattle.slicer.proofs.refuse.refuse_transport.Statement.{statement}
+use Rattle.slicer.proofs.refuse.refuse_transport.Tie as tie
+
+enum-known-answer : tie.Need-enum-known-answer
+enum-known-answer c = search needs
+
+at-requires : tie.Need-at-requires
+at-requires c κs = search needs
+
+enum-told : tie.Need-enum-told
+enum-told c = search needs
+
+returns : tie.Need-returns
+returns c = λ f e. placed-same _ _ (ap transportOnPaper (c .before .before .answer .given .1)) e (c .at .ensures)
+
+returns-2 : tie.Need-returns-2
+returns-2 c = λ f e. absurd (not-whole (ap transportOnPaper (c .enum-told .given .1)) e)
+
+pub refuse-transport-spec : {M : Type 1} → statement M
+refuse-transport-spec =
+    tie.close (tie.spec enum-known-answer at-requires enum-told returns returns-2)

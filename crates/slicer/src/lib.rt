@@ -1,0 +1,20 @@
+// The walk over a frame: any bytes, by any entry, get the reply of document 01. It knows the header readers only by what
+// they promise. The lent bytes are read and never written.
+mod link;
+mod net;
+pub mod packet;
+mod refuse;
+mod transport;
+mod turn;
+mod walk;
+
+pub use packet::Ending;
+pub use packet::Entry;
+pub use packet::IpPart;
+pub use packet::LinkPart;
+pub use packet::NetPart;
+pub use packet::Outcome;
+pub use packet::Range;
+pub use packet::SlicedPacket;
+pub use packet::TransportPart;
+pub use walk::slice;

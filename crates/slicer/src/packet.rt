@@ -1,0 +1,64 @@
+// The reply: what was found in a frame, and how the walk ended.
+use rules::Header;
+use rules::Number;
+use rules::Refusal;
+use rules::Stop;
+use rules::ether_type::TAG_LIMIT;
+
+// What the collector says that a frame begins with.
+pub enum Entry {
+    Ethernet,
+    Ipv4,
+    Ipv6,
+}
+
+// Some bytes of the frame: their offset from its start, and how many.
+pub struct Range {
+    pub at: usize,
+    pub len: usize,
+}
+
+pub enum LinkPart {
+    Nothing,
+    Ethernet2(Header),
+}
+
+// An IP header and the range of its extensions, empty at the header's end where there are none.
+pub struct IpPart {
+    pub header: Header,
+    pub exts: Range,
+    pub fragmented: bool,
+}
+
+pub enum NetPart {
+    Nothing,
+    Ip(IpPart),
+}
+
+pub enum TransportPart {
+    Nothing,
+    Is(Header),
+}
+
+// Why the walk stopped, the number that names the payload, and the payload's range.
+pub struct Ending {
+    pub payload: Range,
+    pub number: Number,
+    pub stop: Stop,
+}
+
+pub enum Outcome {
+    Accepted(Ending),
+    Refused(Refusal),
+}
+
+// The tags stand beside the enums, in an array and a count; slots past the count are zeros. Of a refused frame nothing but
+// the refusal is told.
+pub struct SlicedPacket {
+    pub tags: [Range; TAG_LIMIT],
+    pub count: usize,
+    pub net: NetPart,
+    pub link: LinkPart,
+    pub transport: TransportPart,
+    pub outcome: Outcome,
+}

@@ -1,0 +1,49 @@
+// The refusal of a reader's answer at its place. The arm of an answer that is whole is never taken: `let .. else` hands over
+// only answers that are not, and cannot name the fault that they hold.
+ghost use mathlib.Core.Path.{_≡_};
+ghost use Rattle.rules.specs.Paper.{refusalOnPaper};
+ghost use Rattle.rules.specs.Test.{Failure, failed, placed};
+ghost use Rattle.headers.specs.Says.{linkOnPaper, ipOnPaper, extOnPaper, transportOnPaper};
+use headers::ExtRead;
+use headers::IpRead;
+use headers::LinkRead;
+use headers::TransportRead;
+use rules::Fault;
+use rules::Refusal;
+use rules::RoomSource;
+
+pub fn refuse_link(answer: LinkRead, offset: usize, room: RoomSource) -> Refusal
+    ensures { λ r. ⌜ ((f : Failure) → linkOnPaper answer ≡ failed f → refusalOnPaper r ≡ placed f offset room) ⌝ }
+{
+    match answer {
+        LinkRead::Refused(fault) => fault.at(offset, room),
+        LinkRead::Whole(_) => Refusal::ZeroAuthLength { offset },
+    }
+}
+
+pub fn refuse_ip(answer: IpRead, offset: usize, room: RoomSource) -> Refusal
+    ensures { λ r. ⌜ ((f : Failure) → ipOnPaper answer ≡ failed f → refusalOnPaper r ≡ placed f offset room) ⌝ }
+{
+    match answer {
+        IpRead::Refused(fault) => fault.at(offset, room),
+        IpRead::Whole(_) => Refusal::ZeroAuthLength { offset },
+    }
+}
+
+pub fn refuse_ext(answer: ExtRead, offset: usize, room: RoomSource) -> Refusal
+    ensures { λ r. ⌜ ((f : Failure) → extOnPaper answer ≡ failed f → refusalOnPaper r ≡ placed f offset room) ⌝ }
+{
+    match answer {
+        ExtRead::Refused(fault) => fault.at(offset, room),
+        ExtRead::Whole(_) => Refusal::ZeroAuthLength { offset },
+    }
+}
+
+pub fn refuse_transport(answer: TransportRead, offset: usize, room: RoomSource) -> Refusal
+    ensures { λ r. ⌜ ((f : Failure) → transportOnPaper answer ≡ failed f → refusalOnPaper r ≡ placed f offset room) ⌝ }
+{
+    match answer {
+        TransportRead::Refused(fault) => fault.at(offset, room),
+        TransportRead::Whole(_) => Refusal::ZeroAuthLength { offset },
+    }
+}
