@@ -147,7 +147,7 @@ set6-room : {s : List ℕ} {at d end : ℕ} {source : RoomSource} → Set6 s at 
 set6-room (none e) t = rw (eq-eqb _ 0 e) refl
 set6-room (some n) t = rw (ne-eqb _ 0 n) refl
 
-declared6 : (n have : ℕ) → 40 + n ≤ have → (pick (eqb n 0) 0 (40 + n) ≤ have) × ((pick (eqb n 0) 0 (40 + n) ≡ 0 → ⊥) → 40 ≤ pick (eqb n 0) 0 (40 + n))
+pub declared6 : (n have : ℕ) → 40 + n ≤ have → (pick (eqb n 0) 0 (40 + n) ≤ have) × ((pick (eqb n 0) 0 (40 + n) ≡ 0 → ⊥) → 40 ≤ pick (eqb n 0) 0 (40 + n))
 declared6 n have h = go (eqb n 0)
   where
     go : (b : Bool) → (pick b 0 (40 + n) ≤ have) × ((pick b 0 (40 + n) ≡ 0 → ⊥) → 40 ≤ pick b 0 (40 + n))

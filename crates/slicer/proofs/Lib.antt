@@ -6,3 +6,4 @@ pub mod Nets
 pub mod Exts
 pub mod Carries
 pub mod Slices
+pub mod Steps

@@ -1,4 +1,7 @@
--- The reply gathered from the walk (Reply), the extension rule by number (Turns), and what each leg of the code promises (Legs).
+-- The reply gathered from the walk (Reply), turns by number (Turns), what each leg of the code promises (Legs), one header at a
+-- place (Steps), and headers by number (Lists).
 pub mod Reply
 pub mod Turns
 pub mod Legs
+pub mod Steps
+pub mod Lists

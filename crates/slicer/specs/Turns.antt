@@ -8,11 +8,20 @@ use Rattle.rules.specs.declared.kind.Kind.the-variants as K
 use Rattle.rules.specs.declared.place.Room.{Room}
 use Rattle.rules.specs.Numbers.{hopByHopNumber, routingNumber, destinationNumber, fragmentNumber, authNumber}
 use Rattle.rules.specs.Test.{pick}
-use Rattle.rules.specs.Rules.{Turn, opens, late, transport, chain6}
+use Rattle.rules.specs.Paper.{stopNumber}
+use Rattle.rules.specs.Rules.{Turn, opens, stops, late, transport, chain6}
 use Rattle.slicer.specs.declared.turn.ExtKind.{ExtKind}
 use Rattle.slicer.specs.declared.turn.ExtKind.the-variants as X
 use Rattle.slicer.specs.declared.turn.ExtTurn.{ExtTurn}
 use Rattle.slicer.specs.declared.turn.ExtTurn.the-variants as T
+use Rattle.slicer.specs.declared.turn.Turn.{Turn as Told}
+use Rattle.slicer.specs.declared.turn.Turn.the-variants as U
+
+-- the code's turn on paper
+abbrev pub turnOnPaper : Told → Turn
+turnOnPaper (U.Opens k) = opens k
+turnOnPaper (U.Stops stop) = stops (stopNumber stop)
+turnOnPaper U.Late = late
 
 abbrev pub kindOf : ExtKind → Kind
 kindOf X.HopByHop = K.HopByHop

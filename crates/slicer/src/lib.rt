@@ -4,6 +4,7 @@ mod link;
 mod net;
 pub mod packet;
 mod refuse;
+mod step;
 mod transport;
 mod turn;
 mod walk;

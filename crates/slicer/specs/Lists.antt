@@ -1,0 +1,1 @@
+-- Headers by number.
