@@ -5,7 +5,7 @@ use mathlib.Core.List.{List}
 use native.Mathlib.Omega.{arith}
 use Rattle.rules.specs.declared.place.Place.{Place}
 use Rattle.rules.specs.Place.{Follow, next, halt, wrong, Found, Reading, reads, refuses, read}
-use Rattle.rules.specs.Walk.{Trace, Entry, entry, behind, onwardBy, step, walk, trace}
+use Rattle.rules.specs.Walk.{Trace, accepted, refused, unfinished, Entry, entry, behind, onwardBy, step, walk, trace}
 use Rattle.laws.specs.Reads.{goes}
 
 onward-same : (x : Follow) (f g : Place → Trace Entry) → ((q : Place) → x ≡ next q → f q ≡ g q) → onwardBy f x ≡ onwardBy g x
@@ -30,3 +30,29 @@ unfolding trace walk
 trace-step s p =
     step-same p (read s p) (walk (p .room .end - p .at) s) (trace s)
     (λ x q e f. let z = goes s p e f in enough (p .room .end - p .at) (suc (q .room .end - q .at)) s q (omega arith) (omega arith))
+
+-- ---- the walk ends
+
+behind-ends : {A : Type 0} (h : A) (t : Trace A) → behind h t ≡ unfinished → t ≡ unfinished
+behind-ends h (accepted hs x) e = cc
+behind-ends h (refused hs r) e = cc
+behind-ends h unfinished e = refl
+
+onward-ends : (x : Follow) (go : Place → Trace Entry) → ((q : Place) → x ≡ next q → go q ≡ unfinished → ⊥) → onwardBy go x ≡ unfinished → ⊥
+onward-ends (next q) go f e = f q refl e
+onward-ends (halt x) go f e = let z : _≡_ {A = ℕ} 0 1 = cc in omega arith
+onward-ends (wrong r) go f e = let z : _≡_ {A = ℕ} 0 1 = cc in omega arith
+
+step-ends : (p : Place) (r : Reading) (go : Place → Trace Entry) → ((x : Found) (q : Place) → r ≡ reads x → x .follow ≡ next q → go q ≡ unfinished → ⊥) → step p r go ≡ unfinished → ⊥
+step-ends p (refuses r) go f e = let z : _≡_ {A = ℕ} 0 1 = cc in omega arith
+step-ends p (reads x) go f e = onward-ends (x .follow) go (λ q w. f x q refl w) (behind-ends _ _ e)
+
+walk-ends : (n : ℕ) (s : List ℕ) (p : Place) → p .room .end - p .at < n → walk n s p ≡ unfinished → ⊥
+unfolding walk
+walk-ends zero s p h e = omega arith
+walk-ends (suc n) s p h e = step-ends p (read s p) (walk n s) (λ x q r w. let z = goes s p r w in walk-ends n s q (omega arith)) e
+
+-- no frame's walk runs out of steps
+pub finished : (s : List ℕ) (p : Place) → trace s p ≡ unfinished → ⊥
+unfolding trace
+finished s p = walk-ends (suc (p .room .end - p .at)) s p (omega arith)

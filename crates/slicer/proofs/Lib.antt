@@ -7,3 +7,4 @@ pub mod Exts
 pub mod Carries
 pub mod Slices
 pub mod Steps
+pub mod Lists

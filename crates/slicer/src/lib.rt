@@ -1,6 +1,7 @@
 // The walk over a frame: any bytes, by any entry, get the reply of document 01. It knows the header readers only by what
 // they promise. The lent bytes are read and never written.
 mod link;
+mod list;
 mod net;
 pub mod packet;
 mod refuse;
@@ -9,6 +10,10 @@ mod transport;
 mod turn;
 mod walk;
 
+pub use list::CountAnswer;
+pub use list::HeaderAnswer;
+pub use list::count;
+pub use list::header;
 pub use packet::Ending;
 pub use packet::Entry;
 pub use packet::IpPart;
