@@ -115,3 +115,9 @@ ipNumberNotOpened = 4
 
 abbrev pub transportRead : ℕ
 transportRead = 5
+
+-- ---- ours
+
+-- how many IP headers a frame holds; request No. 12 raises it
+abbrev pub ipLimit : ℕ
+ipLimit = 1

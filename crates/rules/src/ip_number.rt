@@ -14,3 +14,6 @@ pub const IPV6_FRAG: u8 = 44;
 pub const AUTH: u8 = 51;
 
 pub const IPV6_DEST_OPTIONS: u8 = 60;
+
+// How many IP headers a frame holds.
+pub const IP_LIMIT: usize = 1;

@@ -21,11 +21,10 @@ use Rattle.rules.specs.Paper.{kindNumber, refusalOnPaper}
 use Rattle.rules.specs.declared.stop.Stop.{Stop}
 use Rattle.rules.specs.Numbers.{hopByHopNotAtStart}
 use Rattle.rules.specs.Test.{pick, row}
-use Rattle.rules.specs.Place.{room, place, tagsWith, ipsWith, start, follow, next, Found, reads, refuses, read, bytes}
+use Rattle.rules.specs.Place.{room, place, tagsWith, ipsWith, start, follow, next, Found, reads, refuses, read}
 use Rattle.rules.specs.Walk.{Trace, accepted, refused, unfinished, Entry, entry, header, Answer, is, no-more, not, nth, headerOf, countOf, trace, slices}
 use Rattle.laws.specs.Gather.{gather, gathered, listed, rest, rest-next, rest-halt, rest-wrong, gather-whole, gather-refused}
-use Rattle.laws.specs.Kinds.{sized}
-use Rattle.laws.specs.Reads.{Ahead, goes, parts}
+use Rattle.laws.specs.Reads.{Ahead, goes}
 use Rattle.laws.specs.Walks.{finished}
 use Rattle.slicer.specs.declared.packet.Entry.{Entry as Given}
 use Rattle.slicer.specs.declared.packet.Entry.the-variants as E
@@ -38,6 +37,7 @@ use Rattle.slicer.specs.declared.turn.Turn.the-variants as U
 use Rattle.slicer.specs.Reply.{entryKind}
 use Rattle.slicer.specs.Turns.{turnOnPaper}
 use Rattle.slicer.specs.Steps.{readingOnPaper, saidBy, leftBy}
+use Rattle.slicer.proofs.Steps.{said, said-len}
 use Rattle.slicer.specs.Lists.{Lists, lists, refused as shut, keepOf, listWay, nothingListed}
 
 -- ---- the loop
@@ -52,11 +52,18 @@ pub record Going (s : List ℕ) (k : ℕ) (before : Lists) (kind : Kind) (at end
   pub left : before ≡ gather (listWay k) l s (place kind at (room end tags version ips source mark))
 
 pub going-first : (s : List ℕ) (k : ℕ) (entry : Given) {kind : Kind} → kind ≡ entryKind entry
-  → Going s k (gather (listWay k) nothingListed s (start kind s)) kind 0 (length s) 0 0 S.Slice false nothingListed
+    → Going s k (gather (listWay k) nothingListed s (start kind s)) kind 0 (length s) 0 0 S.Slice false nothingListed
 unfolding start
 going-first s k E.Ethernet e = rw e (record { inside = omega arith; room-in = omega arith; few = omega arith; fewer = omega arith; ips = 0; left = refl })
 going-first s k E.Ipv4 e = rw e (record { inside = omega arith; room-in = omega arith; few = omega arith; fewer = omega arith; ips = 1; left = refl })
 going-first s k E.Ipv6 e = rw e (record { inside = omega arith; room-in = omega arith; few = omega arith; fewer = omega arith; ips = 1; left = refl })
+
+-- the place of the first header
+pub first-is : (s : List ℕ) (entry : Given) {kind : Kind} {ips : ℕ} → kind ≡ entryKind entry → ips ≡ ipsWith kind 0 → place kind 0 (room (length s) 0 0 ips S.Slice false) ≡ start (entryKind entry) s
+unfolding start
+first-is s E.Ethernet e q = rw (q, e) refl
+first-is s E.Ipv4 e q = rw (q, e) refl
+first-is s E.Ipv6 e q = rw (q, e) refl
 
 module _ {s : List ℕ} {k : ℕ} {before : Lists} {kind : Kind} {at end tags version : ℕ} {source : RoomSource} {mark : Bool} {l : Listed} (g : Going s k before kind at end tags version source mark l) where
   module _ {d : Heard} (e : (ips : ℕ) → readingOnPaper d tags ips at ≡ read s (place kind at (room end tags version ips source mark))) where
@@ -65,15 +72,10 @@ module _ {s : List ℕ} {k : ℕ} {before : Lists} {kind : Kind} {at end tags ve
 
   module _ {d : Heard} (e : (ips : ℕ) → readingOnPaper d tags ips at ≡ read s (place kind at (room end tags version ips source mark))) {x : Said} (de : d ≡ D.Whole x) {l′ : Listed} (le : l′ ≡ keepOf k l (record { at = at; len = x .len; kind = kind })) where
     reads-x : read s (place kind at (room end tags version (g .ips) source mark)) ≡ reads (saidBy x tags (g .ips) at)
-    reads-x = sym (e (g .ips)) ∙ ap (λ (y : Heard). readingOnPaper y tags (g .ips) at) de
+    reads-x = said s _ (e (g .ips)) de
 
-    -- the header has some bytes, and they are there
     pub going-len : (4 ≤ x .len) × (x .len ≤ end - at)
-    going-len =
-        let z = parts s _ reads-x in
-        let y = sized kind version (bytes s (place kind at (room end tags version (g .ips) source mark))) (end - at) (z .passed) in
-        let w = ap (λ (f : Found). f .len) (z .found) in
-        (omega arith, omega arith)
+    going-len = said-len s (place kind at (room end tags version (g .ips) source mark)) (e (g .ips)) de
 
     behind : before ≡ rest (listWay k) l′ s (follow (turnOnPaper (x .turn)) (leftBy x tags (g .ips)) (at + x .len) (x .number) (x .to))
     behind = g .left ∙ gather-whole (listWay k) l s _ reads-x ∙ rw le refl
@@ -105,7 +107,7 @@ module _ {s : List ℕ} {k : ℕ} {before : Lists} {kind : Kind} {at end tags ve
             few = rw le (omega (arith, g .few, z .2));
             fewer = one-more j (g .fewer) (z .2);
             ips = ipsWith j (g .ips);
-            left = behind ∙ rw t (rest-next (listWay k) l′ s _)
+            left = behind ∙ rw t (rest-next (listWay k) l′ s _);
           })
         where
           one-more : (j : Kind) → tags ≤ at → at + 4 ≤ at + x .len → tagsWith j tags ≤ at + x .len

@@ -6,30 +6,39 @@ use mathlib.Core.Bool.{Bool, true, false}
 use native.Mathlib.Omega.{arith}
 use lib.ListN.{length}
 use lib.Dec.{eqb}
-use borrow.Author.Tests.{eq-eqb, ne-eqb}
+use borrow.Author.Tests.{eq-eqb, ne-eqb, le-leb}
 use Rattle.rules.specs.declared.kind.Kind.{Kind}
 use Rattle.rules.specs.declared.kind.Kind.the-variants.{Ethernet2, Vlan, Ipv4, Ipv6, HopByHop, Routing, Destination, Fragment, Auth, Udp, Tcp}
 use Rattle.rules.specs.declared.kind.RoomSource.{RoomSource}
 use Rattle.rules.specs.declared.kind.RoomSource.the-variants as S
 use Rattle.rules.specs.declared.place.Number.the-variants.{Ip}
+use Rattle.rules.specs.declared.place.Place.{Place}
 use Rattle.rules.specs.declared.place.Room.{Room}
+use Rattle.rules.specs.Numbers.{tagLimit, ipLimit}
 use Rattle.rules.specs.Bytes.{part, number}
 use Rattle.rules.specs.Test.{pick, Outcome, whole, failed, Failure, placed}
 use Rattle.rules.specs.Rules.{Turn, rule, says, testsBy, lengthOf, declaredOf, marksOf, namesOf, turnOf, payloadOf}
-use Rattle.rules.specs.Place.{room, place, bytes, leaves, follow, followOf, read, Reading, reads, refuses}
+use Rattle.rules.specs.Place.{room, place, bytes, leaves, follow, followOf, read, Reading, reads, refuses, Found}
 use Rattle.laws.specs.Parts.{In, stands, falls, reads-it}
-use Rattle.laws.specs.Reads.{foundAt}
+use Rattle.laws.specs.Kinds.{sized}
+use Rattle.laws.specs.Reads.{foundAt, parts}
 use Rattle.headers.specs.declared.net.IpHeader.{IpHeader}
 use Rattle.headers.specs.declared.transport.TransportHeader.{TransportHeader}
 use Rattle.headers.specs.Says.{linkSays, ipSays, extSays, udpSays, tcpSays}
-use Rattle.slicer.specs.Steps.{linkReading, ipReading, firstTurn, extReading, transportReading}
+use Rattle.slicer.specs.declared.step.Said.{Said}
+use Rattle.slicer.specs.declared.step.Reading.{Reading as Heard}
+use Rattle.slicer.specs.declared.step.Reading.the-variants as D
+use Rattle.slicer.specs.declared.turn.Turn.{Turn as Told}
+use Rattle.slicer.specs.Turns.{turnOnPaper}
+use Rattle.slicer.specs.Places.{steps, leads, stepSays}
+use Rattle.slicer.specs.Steps.{readingOnPaper, saidBy, leftBy, linkReading, ipReading, firstTurn, extReading, transportReading}
 use Rattle.slicer.proofs.Exts.{declared6}
 
 module _ {s : List ℕ} {at : ℕ} {p : Room} (h : In s at p) where
   -- whatever is made of an outcome, it is the reading if it is so in both cases
   reads-by : {A : Type 0} (k : Kind) (fields : (ℕ → ℕ) → ℕ → A) (made : Outcome A → Reading) → ((f : Failure) → made (failed f) ≡ refuses (placed f at (p .source)))
-    → made (whole (fields (bytes s (place k at p)) (p .end - at))) ≡ reads (foundAt s (place k at p))
-    → made (says k (rule k) fields (part s at (p .end))) ≡ read s (place k at p)
+      → made (whole (fields (bytes s (place k at p)) (p .end - at))) ≡ reads (foundAt s (place k at p))
+      → made (says k (rule k) fields (part s at (p .end))) ≡ read s (place k at p)
   reads-by {A} k fields made bad good = go (says k (rule k) fields (part s at (p .end))) refl
     where
       go : (o : Outcome A) → says k (rule k) fields (part s at (p .end)) ≡ o → made o ≡ read s (place k at p)
@@ -112,9 +121,34 @@ module _ {o : Outcome IpHeader} {x : IpHeader} (version at : ℕ) (sets : RoomSo
   left end source = room end (p .tags) version (p .ips) source (x .fragmented)
 
   pub ip-none : x .declared ≡ 0
-    → reads (record { room = left (p .end) (p .source); len = x .len; follow = follow u (left (p .end) (p .source)) (at + x .len) (Ip (x .names)) (p .end) }) ≡ ipReading o version sets at p
+      → reads (record { room = left (p .end) (p .source); len = x .len; follow = follow u (left (p .end) (p .source)) (at + x .len) (Ip (x .names)) (p .end) }) ≡ ipReading o version sets at p
   ip-none d = rw (e, eq-eqb _ 0 d, ← t (left (p .end) (p .source)) refl) refl
 
   pub ip-some : (x .declared ≡ 0 → ⊥)
-    → reads (record { room = left (at + x .declared) sets; len = x .len; follow = follow u (left (at + x .declared) sets) (at + x .len) (Ip (x .names)) (at + x .declared) }) ≡ ipReading o version sets at p
+      → reads (record { room = left (at + x .declared) sets; len = x .len; follow = follow u (left (at + x .declared) sets) (at + x .len) (Ip (x .names)) (at + x .declared) }) ≡ ipReading o version sets at p
   ip-some d = rw (e, ne-eqb _ 0 d, ← t (left (at + x .declared) sets) refl) refl
+
+-- ---- a reading that is whole
+
+module _ (s : List ℕ) (p : Place) {d : Heard} (e : readingOnPaper d (p .room .tags) (p .room .ips) (p .at) ≡ read s p) {x : Said} (de : d ≡ D.Whole x) where
+  pub said : read s p ≡ reads (saidBy x (p .room .tags) (p .room .ips) (p .at))
+  said = sym e ∙ ap (λ (y : Heard). readingOnPaper y (p .room .tags) (p .room .ips) (p .at)) de
+
+  -- the header has some bytes, and they are there
+  pub said-len : (4 ≤ x .len) × (x .len ≤ p .room .end - p .at)
+  said-len =
+      let z = parts s p said in
+      let y = sized (p .kind) (p .room .version) (bytes s p) (p .room .end - p .at) (z .passed) in
+      let w = ap (λ (f : Found). f .len) (z .found) in
+      (omega arith, omega arith)
+
+  -- where it leads, as a step
+  pub said-steps : {u : Told} → x .turn ≡ u
+      → steps (read s p) ≡ leads (x .len) (follow (turnOnPaper u) (leftBy x (p .room .tags) (p .room .ips)) (p .at + x .len) (x .number) (x .to))
+  said-steps t = ap steps said ∙ rw t refl
+
+-- ---- a place
+
+pub step-in : (s : List ℕ) (p : Place) → p .room .end ≤ length s → p .at ≤ p .room .end → p .room .tags ≤ tagLimit → p .room .ips ≤ ipLimit → stepSays s p ≡ steps (read s p)
+unfolding stepSays
+step-in s p a b c d = rw (le-leb _ _ a, le-leb _ _ b, le-leb _ _ c, le-leb _ _ d) refl

@@ -7,7 +7,13 @@ ghost use Rattle.rules.specs.Walk.{headerOf, countOf, slices};
 ghost use Rattle.laws.specs.Gather.{gather};
 ghost use Rattle.slicer.specs.Reply.{entryKind};
 ghost use Rattle.slicer.specs.Lists.{
-    keepOf, listWay, nothingListed, listOnPaper, headerOnPaper, countOnPaper, ReadingShut
+  keepOf,
+  listWay,
+  nothingListed,
+  listOnPaper,
+  headerOnPaper,
+  countOnPaper,
+  ReadingShut,
 };
 use crate::packet::Entry;
 use crate::step::Reading;
@@ -47,13 +53,21 @@ fn keep(listed: Listed, k: usize, header: Header) -> Listed
 {
     let count = listed.count + 1;
     if listed.count == k {
-        return Listed { count, header, met: true };
+        return Listed {
+            count,
+            header,
+            met: true,
+        };
     }
     let earlier = listed.header;
-    Listed { count, header: earlier, met: listed.met }
+    Listed {
+        count,
+        header: earlier,
+        met: listed.met,
+    }
 }
 
-fn tags_with(kind: Kind, tags: usize) -> usize
+pub fn tags_with(kind: Kind, tags: usize) -> usize
     requires { ⌜ tags + 1 < 2 ^ 64 ⌝ }
     ensures { λ r. ⌜ r ≡ tagsWith kind tags ⌝ }
 {
@@ -63,7 +77,7 @@ fn tags_with(kind: Kind, tags: usize) -> usize
     tags
 }
 
-fn entry_kind(entry: Entry) -> Kind
+pub fn entry_kind(entry: Entry) -> Kind
     ensures { λ r. ⌜ r ≡ entryKind entry ⌝ }
 {
     match entry {
@@ -73,7 +87,7 @@ fn entry_kind(entry: Entry) -> Kind
     }
 }
 
-fn reading_refusal(reading: Reading) -> Refusal
+pub fn reading_refusal(reading: Reading) -> Refusal
     ensures { λ r. ⌜ ReadingShut r reading ⌝ }
 {
     match reading {
@@ -92,14 +106,30 @@ fn walk_list(s: &[u8], entry: Entry, k: usize) -> ListRead
     let mut version: usize = 0;
     let mut source = RoomSource::Slice;
     let mut mark = false;
-    let mut listed = Listed { count: 0, header: Header { at: 0, len: 0, kind: Kind::Ethernet2 }, met: false };
+    let mut listed = Listed {
+        count: 0,
+        header: Header {
+            at: 0,
+            len: 0,
+            kind: Kind::Ethernet2,
+        },
+        met: false,
+    };
     loop {
         let reading = read_at(s, kind, at, end, tags, version, source, mark);
         let Reading::Whole(x) = reading else {
             return ListRead::Refused(reading_refusal(reading));
         };
         let past = at + x.len;
-        listed = keep(listed, k, Header { at, len: x.len, kind });
+        listed = keep(
+            listed,
+            k,
+            Header {
+                at,
+                len: x.len,
+                kind,
+            },
+        );
         let turn = x.turn;
         match turn {
             Turn::Opens(next) => {

@@ -11,13 +11,19 @@ ghost use Rattle.headers.specs.declared.transport.TransportHeader.{TransportHea
 ghost use Rattle.headers.specs.Says.{linkOnPaper, ipOnPaper, extOnPaper, transportOnPaper};
 ghost use Rattle.slicer.specs.Turns.{turnOnPaper};
 ghost use Rattle.slicer.specs.Steps.{
-    readingOnPaper, linkReading, ipReading, extReading, transportReading, firstTurn, extTurnOf
+  readingOnPaper,
+  linkReading,
+  ipReading,
+  extReading,
+  transportReading,
+  firstTurn,
+  extTurnOf,
 };
+use crate::net::either;
 use crate::refuse::refuse_ext;
 use crate::refuse::refuse_ip;
 use crate::refuse::refuse_link;
 use crate::refuse::refuse_transport;
-use crate::net::either;
 use crate::turn::Turn;
 use crate::turn::chain4_turn;
 use crate::turn::chain6_turn;
@@ -54,14 +60,32 @@ pub enum Reading {
     Refused(Refusal),
 }
 
-fn at_link(answer: LinkRead, len: usize, at: usize, end: usize, tags: usize, version: usize, source: RoomSource, mark: bool) -> Reading
+fn at_link(
+    answer: LinkRead,
+    len: usize,
+    at: usize,
+    end: usize,
+    tags: usize,
+    version: usize,
+    source: RoomSource,
+    mark: bool,
+) -> Reading
     ensures { λ r. ⌜ ((ips : ℕ) → readingOnPaper r tags ips at ≡ linkReading (linkOnPaper answer) len at (room end tags version ips source mark)) ⌝ }
 {
     let LinkRead::Whole(number) = answer else {
         return Reading::Refused(refuse_link(answer, at, source));
     };
     let turn = link_turn(number, tags);
-    Reading::Whole(Said { len, end, to: end, version, number: Number::Link(number), turn, source, mark })
+    Reading::Whole(Said {
+        len,
+        end,
+        to: end,
+        version,
+        number: Number::Link(number),
+        turn,
+        source,
+        mark,
+    })
 }
 
 fn ip_turn(number: IpNumber, version: usize, mark: bool) -> Turn
@@ -73,7 +97,15 @@ fn ip_turn(number: IpNumber, version: usize, mark: bool) -> Turn
     chain6_turn(number, true, mark)
 }
 
-fn at_ip(answer: IpRead, at: usize, end: usize, tags: usize, version: usize, sets: RoomSource, source: RoomSource) -> Reading
+fn at_ip(
+    answer: IpRead,
+    at: usize,
+    end: usize,
+    tags: usize,
+    version: usize,
+    sets: RoomSource,
+    source: RoomSource,
+) -> Reading
     requires { ⌜ ((x : I) → ipOnPaper answer ≡ whole x → at + x .declared ≤ end) ⌝ }
     ensures { λ r. ⌜ ((ips v : ℕ) (m : B) → readingOnPaper r tags ips at ≡ ipReading (ipOnPaper answer) version sets at (room end tags v ips source m)) ⌝ }
 {
@@ -83,10 +115,28 @@ fn at_ip(answer: IpRead, at: usize, end: usize, tags: usize, version: usize, set
     let number = x.names;
     let turn = ip_turn(number, version, x.fragmented);
     if x.declared == 0 {
-        return Reading::Whole(Said { len: x.len, end, to: end, version, number: Number::Ip(number), turn, source, mark: x.fragmented });
+        return Reading::Whole(Said {
+            len: x.len,
+            end,
+            to: end,
+            version,
+            number: Number::Ip(number),
+            turn,
+            source,
+            mark: x.fragmented,
+        });
     }
     let inner = at + x.declared;
-    Reading::Whole(Said { len: x.len, end: inner, to: inner, version, number: Number::Ip(number), turn, source: sets, mark: x.fragmented })
+    Reading::Whole(Said {
+        len: x.len,
+        end: inner,
+        to: inner,
+        version,
+        number: Number::Ip(number),
+        turn,
+        source: sets,
+        mark: x.fragmented,
+    })
 }
 
 // `four` says that the header is the one AUTH of an IPv4 packet.
@@ -99,7 +149,16 @@ fn ext_behind(number: IpNumber, four: bool, mark: bool) -> Turn
     chain6_turn(number, false, mark)
 }
 
-fn at_ext(answer: ExtRead, four: bool, at: usize, end: usize, tags: usize, version: usize, source: RoomSource, marked: bool) -> Reading
+fn at_ext(
+    answer: ExtRead,
+    four: bool,
+    at: usize,
+    end: usize,
+    tags: usize,
+    version: usize,
+    source: RoomSource,
+    marked: bool,
+) -> Reading
     ensures { λ r. ⌜ ((ips : ℕ) → readingOnPaper r tags ips at ≡ extReading (extOnPaper answer) four at (room end tags version ips source marked)) ⌝ }
 {
     let ExtRead::Whole(x) = answer else {
@@ -108,10 +167,28 @@ fn at_ext(answer: ExtRead, four: bool, at: usize, end: usize, tags: usize, versi
     let number = x.names;
     let mark = either(x.fragmenting, marked);
     let turn = ext_behind(number, four, mark);
-    Reading::Whole(Said { len: x.len, end, to: end, version, number: Number::Ip(number), turn, source, mark })
+    Reading::Whole(Said {
+        len: x.len,
+        end,
+        to: end,
+        version,
+        number: Number::Ip(number),
+        turn,
+        source,
+        mark,
+    })
 }
 
-fn at_transport(answer: TransportRead, number: u8, at: usize, end: usize, tags: usize, version: usize, source: RoomSource, mark: bool) -> Reading
+fn at_transport(
+    answer: TransportRead,
+    number: u8,
+    at: usize,
+    end: usize,
+    tags: usize,
+    version: usize,
+    source: RoomSource,
+    mark: bool,
+) -> Reading
     requires { ⌜ ((x : T) → transportOnPaper answer ≡ whole x → at + x .end ≤ end) ⌝ }
     ensures { λ r. ⌜ ((ips : ℕ) → readingOnPaper r tags ips at ≡ transportReading (transportOnPaper answer) number at (room end tags version ips source mark)) ⌝ }
 {
@@ -119,26 +196,141 @@ fn at_transport(answer: TransportRead, number: u8, at: usize, end: usize, tags: 
         return Reading::Refused(refuse_transport(answer, at, source));
     };
     let to = at + x.end;
-    Reading::Whole(Said { len: x.len, end, to, version, number: Number::Ip(IpNumber(number)), turn: Turn::Stops(Stop::TransportRead), source, mark })
+    Reading::Whole(Said {
+        len: x.len,
+        end,
+        to,
+        version,
+        number: Number::Ip(IpNumber(number)),
+        turn: Turn::Stops(Stop::TransportRead),
+        source,
+        mark,
+    })
 }
 
 // The header of a kind at an offset in a room.
-pub fn read_at(s: &[u8], kind: Kind, at: usize, end: usize, tags: usize, version: usize, source: RoomSource, mark: bool) -> Reading
+pub fn read_at(
+    s: &[u8],
+    kind: Kind,
+    at: usize,
+    end: usize,
+    tags: usize,
+    version: usize,
+    source: RoomSource,
+    mark: bool,
+) -> Reading
     requires { ⌜ (at ≤ end) × (end ≤ length (now s)) ⌝ }
     ensures { λ r. ⌜ ((ips : ℕ) → readingOnPaper r tags ips at ≡ read (now (s .entry)) (place kind at (room end tags version ips source mark))) ⌝ }
 {
     let part = &s[at..end];
     match kind {
-        Kind::Ethernet2 => at_link(headers::read_ethernet2(part), length::ETHERNET2, at, end, tags, version, source, mark),
-        Kind::Vlan => at_link(headers::read_vlan(part), length::VLAN, at, end, tags, version, source, mark),
-        Kind::Ipv4 => at_ip(headers::read_ipv4(part), at, end, tags, 4, RoomSource::Ipv4, source),
-        Kind::Ipv6 => at_ip(headers::read_ipv6(part), at, end, tags, 6, RoomSource::Ipv6, source),
-        Kind::HopByHop => at_ext(headers::read_raw_ext(part, Kind::HopByHop), false, at, end, tags, version, source, mark),
-        Kind::Routing => at_ext(headers::read_raw_ext(part, Kind::Routing), false, at, end, tags, version, source, mark),
-        Kind::Destination => at_ext(headers::read_raw_ext(part, Kind::Destination), false, at, end, tags, version, source, mark),
-        Kind::Fragment => at_ext(headers::read_fragment(part), false, at, end, tags, version, source, mark),
-        Kind::Auth => at_ext(headers::read_auth(part), version == 4, at, end, tags, version, source, mark),
-        Kind::Udp => at_transport(headers::read_udp(part), ip_number::UDP, at, end, tags, version, source, mark),
-        Kind::Tcp => at_transport(headers::read_tcp(part), ip_number::TCP, at, end, tags, version, source, mark),
+        Kind::Ethernet2 => at_link(
+            headers::read_ethernet2(part),
+            length::ETHERNET2,
+            at,
+            end,
+            tags,
+            version,
+            source,
+            mark,
+        ),
+        Kind::Vlan => at_link(
+            headers::read_vlan(part),
+            length::VLAN,
+            at,
+            end,
+            tags,
+            version,
+            source,
+            mark,
+        ),
+        Kind::Ipv4 => at_ip(
+            headers::read_ipv4(part),
+            at,
+            end,
+            tags,
+            4,
+            RoomSource::Ipv4,
+            source,
+        ),
+        Kind::Ipv6 => at_ip(
+            headers::read_ipv6(part),
+            at,
+            end,
+            tags,
+            6,
+            RoomSource::Ipv6,
+            source,
+        ),
+        Kind::HopByHop => at_ext(
+            headers::read_raw_ext(part, Kind::HopByHop),
+            false,
+            at,
+            end,
+            tags,
+            version,
+            source,
+            mark,
+        ),
+        Kind::Routing => at_ext(
+            headers::read_raw_ext(part, Kind::Routing),
+            false,
+            at,
+            end,
+            tags,
+            version,
+            source,
+            mark,
+        ),
+        Kind::Destination => at_ext(
+            headers::read_raw_ext(part, Kind::Destination),
+            false,
+            at,
+            end,
+            tags,
+            version,
+            source,
+            mark,
+        ),
+        Kind::Fragment => at_ext(
+            headers::read_fragment(part),
+            false,
+            at,
+            end,
+            tags,
+            version,
+            source,
+            mark,
+        ),
+        Kind::Auth => at_ext(
+            headers::read_auth(part),
+            version == 4,
+            at,
+            end,
+            tags,
+            version,
+            source,
+            mark,
+        ),
+        Kind::Udp => at_transport(
+            headers::read_udp(part),
+            ip_number::UDP,
+            at,
+            end,
+            tags,
+            version,
+            source,
+            mark,
+        ),
+        Kind::Tcp => at_transport(
+            headers::read_tcp(part),
+            ip_number::TCP,
+            at,
+            end,
+            tags,
+            version,
+            source,
+            mark,
+        ),
     }
 }

@@ -2,7 +2,8 @@
 ghost use mathlib.Core.Path.{_≡_};
 ghost use Prim.Native.Nat.{ℕ, _+_, _≤_};
 ghost use lib.ListN.{length};
-ghost use Rattle.rules.specs.declared.kind.Kind.{Kind as K};
+ghost use Rattle.rules.specs.declared.kind.Kind.{Kind as AnyKind};
+ghost use Rattle.rules.specs.declared.kind.Kind.the-variants as K;
 ghost use Rattle.rules.specs.Numbers.{ethernetLength, tagLimit, tagsFull, etherTypeNotOpened};
 ghost use Rattle.rules.specs.Test.{pick};
 ghost use Rattle.rules.specs.Paper.{refusalOnPaper, stopNumber};
@@ -165,7 +166,7 @@ fn link_stop(number: EtherType) -> Stop
 
 fn slice_transport(s: &[u8], front: LinkFound, found: NetFound) -> SlicedPacket
     requires { ⌜ (front .tags ≤ tagLimit) × (found .begin + found .len ≤ found .at) × (found .at ≤ found .end) × (found .end ≤ length (now s)) ⌝ }
-    ensures { λ r. ⌜ ((k : K) (t : ℕ) → packetOnPaper r ≡ onTransport (now (s .entry)) (foundIp found (linkParts (front .linked) (front .tags))) (netRoom k (found .end) t (found .source) (found .mark)) (found .number) (found .at)) ⌝ }
+    ensures { λ r. ⌜ ((k : AnyKind) (t : ℕ) → packetOnPaper r ≡ onTransport (now (s .entry)) (foundIp found (linkParts (front .linked) (front .tags))) (netRoom k (found .end) t (found .source) (found .mark)) (found .number) (found .at)) ⌝ }
 {
     let number = found.number;
     let source = found.source;
@@ -228,4 +229,30 @@ pub fn slice(s: &[u8], entry: Entry) -> SlicedPacket
         stop: link_stop(number),
     };
     accepted(front, NetPart::Nothing, TransportPart::Nothing, ending)
+}
+
+impl SlicedPacket {
+    // A whole Ethernet II frame, without the frame check sequence.
+    pub fn from_ethernet(s: &[u8]) -> Self
+        ensures reply { λ r. ⌜ packetOnPaper r ≡ replyOf K.Ethernet2 (now (s .entry)) ⌝ }
+        ensures unwritten { λ r. ⌜ now (s .exit) ≡ now (s .entry) ⌝ }
+    {
+        slice(s, Entry::Ethernet)
+    }
+
+    // A packet known to be IPv4.
+    pub fn from_ipv4(s: &[u8]) -> Self
+        ensures reply { λ r. ⌜ packetOnPaper r ≡ replyOf K.Ipv4 (now (s .entry)) ⌝ }
+        ensures unwritten { λ r. ⌜ now (s .exit) ≡ now (s .entry) ⌝ }
+    {
+        slice(s, Entry::Ipv4)
+    }
+
+    // A packet known to be IPv6.
+    pub fn from_ipv6(s: &[u8]) -> Self
+        ensures reply { λ r. ⌜ packetOnPaper r ≡ replyOf K.Ipv6 (now (s .entry)) ⌝ }
+        ensures unwritten { λ r. ⌜ now (s .exit) ≡ now (s .entry) ⌝ }
+    {
+        slice(s, Entry::Ipv6)
+    }
 }

@@ -1,34 +1,26 @@
+-- `list::header` meets its contract. Assumes nothing.
 use mathlib.Core.Path.{refl, sym, ap, _∙_}
 use Rattle.slicer.specs.Lists.{listOnPaper}
 use Rattle.slicer.proofs.Lists.{header-is, refusal-is}
 use borrow.Author.Needs.{needs}
 use Rattle.slicer.proofs.list.header.Statement.{statement}
 use Rattle.slicer.proofs.list.header.Tie as tie
-use Rattle.slicer.proofs.list.header.Reads as reads
-use Rattle.slicer.proofs.list.header.Lts as lts
-use Rattle.slicer.proofs.list.walk_list.Reads as walk-list-reads
 
--- src/list.rt:129:9
 walk-list-requires : tie.Need-walk-list-requires
 walk-list-requires c κs = search needs
 
--- src/list.rt:131:25
 enum-known-list : tie.Need-enum-known-list
 enum-known-list c = search needs
 
--- src/list.rt:134:17
 returns : tie.Need-returns
 returns c = (rw (c .if1 .taken) at (header-is _ _ (c .before .before .before .before .before .before .before .args .s .now) (c .before .before .before .before .before .walk-list .ensures) (ap listOnPaper (c .before .before .before .list .given .1))), refl)
 
--- src/list.rt:138:27
 enum-known-list-2 : tie.Need-enum-known-list-2
 enum-known-list-2 c = search needs
 
--- src/list.rt:125:1
 returns-2 : tie.Need-returns-2
 returns-2 c = (rw (c .if1 .left) at (header-is _ _ (c .before .before .before .before .before .before .before .args .s .now) (c .before .before .before .before .before .walk-list .ensures) (ap listOnPaper (c .before .before .before .list .given .1))), refl)
 
--- src/list.rt:125:1
 returns-3 : tie.Need-returns-3
 returns-3 c = (refusal-is _ _ (c .before .before .before .before .before .args .s .now) (c .before .before .before .walk-list .ensures) (ap listOnPaper (c .before .list2 .given .1)) .0, refl)
 

@@ -1,21 +1,17 @@
+-- `list::keep` meets its contract. Assumes nothing.
 use native.Mathlib.Omega.{arith}
 use mathlib.Core.Path.{refl}
 use borrow.Author.Tests.{eq-eqb, ne-eqb}
 use borrow.Author.Needs.{needs}
 use Rattle.slicer.proofs.list.keep.Statement.{statement}
 use Rattle.slicer.proofs.list.keep.Tie as tie
-use Rattle.slicer.proofs.list.keep.Reads as reads
-use Rattle.slicer.proofs.list.keep.Lts as lts
 
--- src/list.rt:48:17
 add-count : tie.Need-add-count
 add-count c = omega (arith, c .before .pre)
 
--- src/list.rt:50:9
 returns : tie.Need-returns
 returns c = rw (eq-eqb _ _ (c .if1 .taken)) refl
 
--- src/list.rt:44:1
 returns-2 : tie.Need-returns-2
 returns-2 c = rw (ne-eqb _ _ (c .before .if1 .left)) refl
 

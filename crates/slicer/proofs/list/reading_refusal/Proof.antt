@@ -1,24 +1,19 @@
+-- `list::reading_refusal` meets its contract. Assumes nothing.
 use Rattle.slicer.proofs.Lists.{same-refusal, not-refusal}
 use Prim.Native.Nat.{ℕ}
 use borrow.Author.Needs.{needs}
 use Rattle.slicer.proofs.list.reading_refusal.Statement.{statement}
 use Rattle.slicer.proofs.list.reading_refusal.Tie as tie
-use Rattle.slicer.proofs.list.reading_refusal.Reads as reads
-use Rattle.slicer.proofs.list.reading_refusal.Lts as lts
 
--- src/list.rt:80:26
 enum-known-reading : tie.Need-enum-known-reading
 enum-known-reading c = search needs
 
--- src/list.rt:81:24
 enum-known-reading-2 : tie.Need-enum-known-reading-2
 enum-known-reading-2 c = search needs
 
--- src/list.rt:76:1
 returns : tie.Need-returns
 returns c = λ q tags ips at e. same-refusal tags ips at (c .before .reading .given .1) e
 
--- src/list.rt:76:1
 returns-2 : tie.Need-returns-2
 returns-2 c = λ q tags ips at e. absurd (not-refusal tags ips at (c .before .reading2 .given .1) e)
 

@@ -1,26 +1,20 @@
+-- `list::tags_with` meets its contract. Assumes nothing.
 use native.Mathlib.Omega.{arith}
 use mathlib.Core.Path.{refl}
 use borrow.Author.Tests.{eq-eqb, ne-eqb}
 use borrow.Author.Needs.{needs}
 use Rattle.slicer.proofs.list.tags_with.Statement.{statement}
 use Rattle.slicer.proofs.list.tags_with.Tie as tie
-use Rattle.slicer.proofs.list.tags_with.Reads as reads
-use Rattle.slicer.proofs.list.tags_with.Lts as lts
-use Rattle.rules.proofs.kind.Kind.number.Reads as number-reads
 
--- src/list.rt:60:8
 number-requires : tie.Need-number-requires
 number-requires c κs = search needs
 
--- src/list.rt:61:16
 add-result : tie.Need-add-result
 add-result c = omega (arith, c .before .before .pre)
 
--- src/list.rt:61:9
 returns : tie.Need-returns
 returns c = rw (← c .before .number .ensures, eq-eqb _ 2 (c .if1 .taken)) refl
 
--- src/list.rt:56:1
 returns-2 : tie.Need-returns-2
 returns-2 c = rw (← c .before .number .ensures, ne-eqb _ 2 (c .if1 .left)) refl
 

@@ -1,3 +1,4 @@
+-- `list::walk_list` meets its contract. Assumes nothing.
 use Rattle.slicer.proofs.Lists.{going-len}
 use Prim.Native.Nat.{_-_}
 use native.Mathlib.Omega.{arith}
@@ -10,13 +11,6 @@ use Rattle.slicer.proofs.Lists.{Going, going-first, going-refused, goin
 use borrow.Author.Needs.{needs}
 use Rattle.slicer.proofs.list.walk_list.Statement.{statement}
 use Rattle.slicer.proofs.list.walk_list.Tie as tie
-use Rattle.slicer.proofs.list.walk_list.Reads as reads
-use Rattle.slicer.proofs.list.walk_list.Lts as lts
-use Rattle.slicer.proofs.list.entry_kind.Reads as entry-kind-reads
-use Rattle.slicer.proofs.list.keep.Reads as keep-reads
-use Rattle.slicer.proofs.list.reading_refusal.Reads as reading-refusal-reads
-use Rattle.slicer.proofs.list.tags_with.Reads as tags-with-reads
-use Rattle.slicer.proofs.step.read_at.Reads as read-at-reads
 
 abbrev Inv-loop : tie.InvT-loop
 Inv-loop s k kind₀ at₀ end₀ tags₀ version₀ source₀ mark₀ listed₀ kind at end tags version source mark listed =
@@ -26,71 +20,54 @@ abbrev μ-loop : tie.MeasureT-loop
 μ-loop s k kind₀ at₀ end₀ tags₀ version₀ source₀ mark₀ listed₀ kind at end tags version source mark listed =
     end - at
 
--- src/list.rt:88:9
 entry-kind-requires : tie.Need-entry-kind-requires Inv-loop μ-loop
 entry-kind-requires c κs = search needs
 
--- src/list.rt:96:5
 loop-holds : tie.Need-loop-holds Inv-loop μ-loop
 loop-holds c = going-first _ _ (c .before .before .args .entry) (c .entry-kind .ensures)
 
--- src/list.rt:97:13
 read-at-requires : tie.Need-read-at-requires Inv-loop μ-loop
 read-at-requires c κs = (c .loop .inv .inside, c .loop .inv .room-in)
 
--- src/list.rt:98:28
 enum-known-reading : tie.Need-enum-known-reading Inv-loop μ-loop
 enum-known-reading c = search needs
 
--- src/list.rt:99:38
 enum-told : tie.Need-enum-told Inv-loop μ-loop
 enum-told c = search needs
 
--- src/list.rt:99:38
 reading-refusal-requires : tie.Need-reading-refusal-requires Inv-loop μ-loop
 reading-refusal-requires c κs = tt
 
--- src/list.rt:99:13
 returns : tie.Need-returns Inv-loop μ-loop
 returns c = ap refused (c .reading-refusal .ensures _ 0 0 0 (shut-row 0 0 0 (c .before .enum-told .given .1))) ∙ sym (going-refused (c .before .before .before .before .loop .inv) (c .before .before .before .read-at .ensures) (c .before .enum-told .given .1)) ∙ ap (λ j. gather (listWay (c .before .before .before .before .before .before .before .args .k)) nothingListed (c .before .before .before .before .before .before .before .args .s .now) (start j (c .before .before .before .before .before .before .before .args .s .now))) (c .before .before .before .before .before .entry-kind .ensures)
 
--- src/list.rt:101:20
 add-past : tie.Need-add-past Inv-loop μ-loop
 add-past c = let z = going-len (c .before .before .before .before .before .loop .inv) (c .before .before .before .before .read-at .ensures) (c .before .before .reading .given .1) refl in omega (arith, c .before .before .before .before .before .loop .inv .inside, c .before .before .before .before .before .loop .inv .room-in)
 
--- src/list.rt:102:9
 keep-requires : tie.Need-keep-requires Inv-loop μ-loop
 keep-requires c κs = let z = going-len (c .before .before .before .before .before .loop .inv) (c .before .before .before .before .read-at .ensures) (c .before .before .reading .given .1) refl in omega (arith, c .before .before .before .before .before .loop .inv .inside, c .before .before .before .before .before .loop .inv .room-in, c .before .before .before .before .before .loop .inv .few)
 
--- src/list.rt:105:25
 enum-known-turn : tie.Need-enum-known-turn Inv-loop μ-loop
 enum-known-turn c = search needs
 
--- src/list.rt:106:17
 tags-with-requires : tie.Need-tags-with-requires Inv-loop μ-loop
 tags-with-requires c κs = let z = going-len (c .before .before .before .before .before .before .before .before .before .loop .inv) (c .before .before .before .before .before .before .before .before .read-at .ensures) (c .before .before .before .before .before .before .reading .given .1) refl in omega (arith, c .before .before .before .before .before .before .before .before .before .loop .inv .inside, c .before .before .before .before .before .before .before .before .before .loop .inv .room-in, c .before .before .before .before .before .before .before .before .before .loop .inv .fewer)
 
--- src/list.rt:96:5
 loop-less : tie.Need-loop-less Inv-loop μ-loop
 loop-less c = let z = going-ahead (c .before .before .before .before .before .before .before .before .before .before .loop .inv) (c .before .before .before .before .before .before .before .before .before .read-at .ensures) (c .before .before .before .before .before .before .before .reading .given .1) (c .before .before .before .before .keep .ensures) _ (c .before .before .turn .given .1) in omega (arith, c .before .before .before .before .before .before .before .before .before .before .loop .inv .inside)
 
--- src/list.rt:96:5
 loop-again : tie.Need-loop-again Inv-loop μ-loop
 loop-again c = going-on (c .before .before .before .before .before .before .before .before .before .before .loop .inv) (c .before .before .before .before .before .before .before .before .before .read-at .ensures) (c .before .before .before .before .before .before .before .reading .given .1) (c .before .before .before .before .keep .ensures) _ (c .before .before .turn .given .1) (c .tags-with .ensures)
 
--- src/list.rt:115:17
 enum-told-2 : tie.Need-enum-told-2 Inv-loop μ-loop
 enum-told-2 c = search needs
 
--- src/list.rt:115:17
 returns-2 : tie.Need-returns-2 Inv-loop μ-loop
 returns-2 c = sym (going-halt (c .before .before .before .before .before .before .before .before .loop .inv) (c .before .before .before .before .before .before .before .read-at .ensures) (c .before .before .before .before .before .reading .given .1) (c .before .before .keep .ensures) _ (c .enum-told2 .given .1)) ∙ ap (λ j. gather (listWay (c .before .before .before .before .before .before .before .before .before .before .before .args .k)) nothingListed (c .before .before .before .before .before .before .before .before .before .before .before .args .s .now) (start j (c .before .before .before .before .before .before .before .before .before .before .before .args .s .now))) (c .before .before .before .before .before .before .before .before .before .entry-kind .ensures)
 
--- src/list.rt:118:42
 enum-told-3 : tie.Need-enum-told-3 Inv-loop μ-loop
 enum-told-3 c = search needs
 
--- src/list.rt:118:17
 returns-3 : tie.Need-returns-3 Inv-loop μ-loop
 returns-3 c = sym (going-late (c .before .before .before .before .before .before .before .before .loop .inv) (c .before .before .before .before .before .before .before .read-at .ensures) (c .before .before .before .before .before .reading .given .1) (c .before .before .keep .ensures) (c .enum-told3 .given .1)) ∙ ap (λ j. gather (listWay (c .before .before .before .before .before .before .before .before .before .before .before .args .k)) nothingListed (c .before .before .before .before .before .before .before .before .before .before .before .args .s .now) (start j (c .before .before .before .before .before .before .before .before .before .before .before .args .s .now))) (c .before .before .before .before .before .before .before .before .before .entry-kind .ensures)
 

@@ -1,3 +1,4 @@
+-- `step::at_ip` meets its contract. Assumes nothing.
 use Rattle.rules.specs.Place.{room}
 use Rattle.slicer.proofs.Steps.{ip-none, ip-some}
 use mathlib.Core.Path.{refl, sym, ap, _∙_}
@@ -8,40 +9,28 @@ use Rattle.rules.specs.Place.{refuses}
 use borrow.Author.Needs.{needs}
 use Rattle.slicer.proofs.step.at_ip.Statement.{statement}
 use Rattle.slicer.proofs.step.at_ip.Tie as tie
-use Rattle.slicer.proofs.step.at_ip.Reads as reads
-use Rattle.slicer.proofs.step.at_ip.Lts as lts
-use Rattle.slicer.proofs.refuse.refuse_ip.Reads as refuse-ip-reads
-use Rattle.slicer.proofs.step.ip_turn.Reads as ip-turn-reads
 
--- src/step.rt:80:23
 enum-known-answer : tie.Need-enum-known-answer
 enum-known-answer c = search needs
 
--- src/step.rt:81:33
 enum-told : tie.Need-enum-told
 enum-told c = search needs
 
--- src/step.rt:81:33
 refuse-ip-requires : tie.Need-refuse-ip-requires
 refuse-ip-requires c κs = search needs
 
--- src/step.rt:81:9
 returns : tie.Need-returns
 returns c = let z = ap ipOnPaper (c .before .enum-told .given .1) in λ ips v m. rw z (ap refuses (c .refuse-ip .ensures _ z))
 
--- src/step.rt:84:9
 ip-turn-requires : tie.Need-ip-turn-requires
 ip-turn-requires c κs = search needs
 
--- src/step.rt:86:9
 returns-2 : tie.Need-returns-2
 returns-2 c = λ ips v m. ip-none _ _ _ (room (c .before .before .before .before .before .before .before .args .end) (c .before .before .before .before .before .before .before .args .tags) v ips (c .before .before .before .before .before .before .before .args .source) m) (ap ipOnPaper (c .before .before .before .before .before .answer .given .1)) (c .before .before .ip-turn .ensures) (c .if1 .taken)
 
--- src/step.rt:88:17
 add-inner : tie.Need-add-inner
 add-inner c = let z = c .before .before .before .before .before .before .before .before .pre _ (ap ipOnPaper (c .before .before .before .before .before .before .answer .given .1)) in omega arith
 
--- src/step.rt:76:1
 returns-3 : tie.Need-returns-3
 returns-3 c = λ ips v m. ip-some _ _ _ (room (c .before .before .before .before .before .before .before .before .args .end) (c .before .before .before .before .before .before .before .before .args .tags) v ips (c .before .before .before .before .before .before .before .before .args .source) m) (ap ipOnPaper (c .before .before .before .before .before .before .answer .given .1)) (c .before .before .before .ip-turn .ensures) (c .before .if1 .left)
 

@@ -1,3 +1,4 @@
+-- `step::at_link` meets its contract. Assumes nothing.
 use Rattle.rules.specs.Place.{room}
 use mathlib.Core.Path.{refl, sym, ap, _∙_}
 use Rattle.headers.specs.Says.{linkOnPaper}
@@ -6,32 +7,22 @@ use Rattle.rules.specs.declared.place.Number.the-variants.{Link}
 use borrow.Author.Needs.{needs}
 use Rattle.slicer.proofs.step.at_link.Statement.{statement}
 use Rattle.slicer.proofs.step.at_link.Tie as tie
-use Rattle.slicer.proofs.step.at_link.Reads as reads
-use Rattle.slicer.proofs.step.at_link.Lts as lts
-use Rattle.slicer.proofs.refuse.refuse_link.Reads as refuse-link-reads
-use Rattle.slicer.proofs.turn.link_turn.Reads as link-turn-reads
 
--- src/step.rt:60:25
 enum-known-answer : tie.Need-enum-known-answer
 enum-known-answer c = search needs
 
--- src/step.rt:61:33
 enum-told : tie.Need-enum-told
 enum-told c = search needs
 
--- src/step.rt:61:33
 refuse-link-requires : tie.Need-refuse-link-requires
 refuse-link-requires c κs = search needs
 
--- src/step.rt:61:9
 returns : tie.Need-returns
 returns c = let z = ap linkOnPaper (c .before .enum-told .given .1) in λ ips. rw (z) (ap refuses (c .refuse-link .ensures _ z))
 
--- src/step.rt:63:9
 link-turn-requires : tie.Need-link-turn-requires
 link-turn-requires c κs = search needs
 
--- src/step.rt:57:1
 returns-2 : tie.Need-returns-2
 returns-2 c = let z = ap linkOnPaper (c .before .before .answer .given .1) in λ ips. rw (z, ← c .link-turn .ensures (room (c .before .before .before .before .args .end) (c .before .before .before .before .args .tags) (c .before .before .before .before .args .version) ips (c .before .before .before .before .args .source) (c .before .before .before .before .args .mark)) refl) refl
 

@@ -1,3 +1,4 @@
+-- `step::at_transport` meets its contract. Assumes nothing.
 use mathlib.Core.Path.{refl, sym, ap, _∙_}
 use native.Mathlib.Omega.{arith}
 use Rattle.headers.specs.Says.{transportOnPaper}
@@ -5,31 +6,22 @@ use Rattle.rules.specs.Place.{refuses}
 use borrow.Author.Needs.{needs}
 use Rattle.slicer.proofs.step.at_transport.Statement.{statement}
 use Rattle.slicer.proofs.step.at_transport.Tie as tie
-use Rattle.slicer.proofs.step.at_transport.Reads as reads
-use Rattle.slicer.proofs.step.at_transport.Lts as lts
-use Rattle.slicer.proofs.refuse.refuse_transport.Reads as refuse-transport-reads
 
--- src/step.rt:118:30
 enum-known-answer : tie.Need-enum-known-answer
 enum-known-answer c = search needs
 
--- src/step.rt:119:33
 enum-told : tie.Need-enum-told
 enum-told c = search needs
 
--- src/step.rt:119:33
 refuse-transport-requires : tie.Need-refuse-transport-requires
 refuse-transport-requires c κs = search needs
 
--- src/step.rt:119:9
 returns : tie.Need-returns
 returns c = let z = ap transportOnPaper (c .before .enum-told .given .1) in λ ips. rw z (ap refuses (c .refuse-transport .ensures _ z))
 
--- src/step.rt:121:14
 add-to : tie.Need-add-to
 add-to c = let z = c .before .before .before .before .pre _ (ap transportOnPaper (c .before .before .answer .given .1)) in omega arith
 
--- src/step.rt:114:1
 returns-2 : tie.Need-returns-2
 returns-2 c = let z = ap transportOnPaper (c .before .before .answer .given .1) in λ ips. rw z refl
 

@@ -1,24 +1,17 @@
+-- `step::ext_behind` meets its contract. Assumes nothing.
 use borrow.Author.Needs.{needs}
 use Rattle.slicer.proofs.step.ext_behind.Statement.{statement}
 use Rattle.slicer.proofs.step.ext_behind.Tie as tie
-use Rattle.slicer.proofs.step.ext_behind.Reads as reads
-use Rattle.slicer.proofs.step.ext_behind.Lts as lts
-use Rattle.slicer.proofs.turn.chain6_turn.Reads as chain6-turn-reads
-use Rattle.slicer.proofs.turn.transport_turn.Reads as transport-turn-reads
 
--- src/step.rt:97:9
 transport-turn-requires : tie.Need-transport-turn-requires
 transport-turn-requires c κs = search needs
 
--- src/step.rt:97:9
 returns : tie.Need-returns
 returns c = λ p e. rw (c .before .if1 .taken) (c .transport-turn .ensures p e)
 
--- src/step.rt:99:5
 chain6-turn-requires : tie.Need-chain6-turn-requires
 chain6-turn-requires c κs = search needs
 
--- src/step.rt:93:1
 returns-2 : tie.Need-returns-2
 returns-2 c = λ p e. rw (c .before .if1 .left) (c .chain6-turn .ensures p e)
 

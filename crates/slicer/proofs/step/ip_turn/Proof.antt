@@ -1,25 +1,18 @@
+-- `step::ip_turn` meets its contract. Assumes nothing.
 use borrow.Author.Tests.{eq-eqb, ne-eqb}
 use borrow.Author.Needs.{needs}
 use Rattle.slicer.proofs.step.ip_turn.Statement.{statement}
 use Rattle.slicer.proofs.step.ip_turn.Tie as tie
-use Rattle.slicer.proofs.step.ip_turn.Reads as reads
-use Rattle.slicer.proofs.step.ip_turn.Lts as lts
-use Rattle.slicer.proofs.turn.chain4_turn.Reads as chain4-turn-reads
-use Rattle.slicer.proofs.turn.chain6_turn.Reads as chain6-turn-reads
 
--- src/step.rt:71:9
 chain4-turn-requires : tie.Need-chain4-turn-requires
 chain4-turn-requires c κs = search needs
 
--- src/step.rt:71:9
 returns : tie.Need-returns
 returns c = λ p e. rw (eq-eqb _ 4 (c .before .if1 .taken)) (c .chain4-turn .ensures p e)
 
--- src/step.rt:73:5
 chain6-turn-requires : tie.Need-chain6-turn-requires
 chain6-turn-requires c κs = search needs
 
--- src/step.rt:67:1
 returns-2 : tie.Need-returns-2
 returns-2 c = λ p e. rw (ne-eqb _ 4 (c .before .if1 .left)) (c .chain6-turn .ensures p e)
 

@@ -1,23 +1,18 @@
+-- `turn::chain4_turn` meets its contract. Assumes nothing.
 use mathlib.Core.Path.{refl}
 use borrow.Author.Tests.{eq-eqb, ne-eqb}
 use Rattle.rules.specs.Rules.{chain4}
 use borrow.Author.Needs.{needs}
 use Rattle.slicer.proofs.turn.chain4_turn.Statement.{statement}
 use Rattle.slicer.proofs.turn.chain4_turn.Tie as tie
-use Rattle.slicer.proofs.turn.chain4_turn.Reads as reads
-use Rattle.slicer.proofs.turn.chain4_turn.Lts as lts
-use Rattle.slicer.proofs.turn.transport_turn.Reads as transport-turn-reads
 
--- src/turn.rt:129:9
 returns : tie.Need-returns
 unfolding chain4
 returns c = λ p e. rw (eq-eqb _ _ (c .if1 .taken)) refl
 
--- src/turn.rt:131:5
 transport-turn-requires : tie.Need-transport-turn-requires
 transport-turn-requires c κs = search needs
 
--- src/turn.rt:125:1
 returns-2 : tie.Need-returns-2
 unfolding chain4
 returns-2 c = λ p e. rw (ne-eqb _ _ (c .before .if1 .left)) (c .transport-turn .ensures p e)

@@ -1,48 +1,35 @@
+-- `turn::chain6_turn` meets its contract. Assumes nothing.
 use mathlib.Core.Path.{refl, sym, ap, _∙_}
 use Rattle.slicer.specs.Turns.{turnBy, chain6-is}
 use Rattle.rules.specs.Rules.{transport, opens}
 use borrow.Author.Needs.{needs}
 use Rattle.slicer.proofs.turn.chain6_turn.Statement.{statement}
 use Rattle.slicer.proofs.turn.chain6_turn.Tie as tie
-use Rattle.slicer.proofs.turn.chain6_turn.Reads as reads
-use Rattle.slicer.proofs.turn.chain6_turn.Lts as lts
-use Rattle.slicer.proofs.turn.ExtKind.kind.Reads as kind-reads
-use Rattle.slicer.proofs.turn.ext_turn.Reads as ext-turn-reads
-use Rattle.slicer.proofs.turn.transport_turn.Reads as transport-turn-reads
 
--- src/turn.rt:137:9
 ext-turn-requires : tie.Need-ext-turn-requires
 ext-turn-requires c κs = search needs
 
--- src/turn.rt:139:24
 enum-known-turn : tie.Need-enum-known-turn
 enum-known-turn c = search needs
 
--- src/turn.rt:139:45
 kind-requires : tie.Need-kind-requires
 kind-requires c κs = search needs
 
--- src/turn.rt:140:26
 enum-told : tie.Need-enum-told
 enum-told c = search needs
 
--- src/turn.rt:141:26
 enum-told-2 : tie.Need-enum-told-2
 enum-told-2 c = search needs
 
--- src/turn.rt:141:26
 transport-turn-requires : tie.Need-transport-turn-requires
 transport-turn-requires c κs = search needs
 
--- src/turn.rt:134:1
 returns : tie.Need-returns
 returns c = λ p e. rw (chain6-is _ p _, ← c .before .before .before .before .ext-turn .ensures, c .before .before .turn .given .1) (ap opens (c .kind .ensures))
 
--- src/turn.rt:134:1
 returns-2 : tie.Need-returns-2
 returns-2 c = λ p e. rw (chain6-is _ p _, ← c .before .before .ext-turn .ensures, c .enum-told .given .1) refl
 
--- src/turn.rt:134:1
 returns-3 : tie.Need-returns-3
 returns-3 c = λ p e. rw (chain6-is _ p _, ← c .before .before .before .ext-turn .ensures, c .before .enum-told2 .given .1) (c .transport-turn .ensures p e)
 

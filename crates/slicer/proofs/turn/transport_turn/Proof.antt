@@ -1,24 +1,19 @@
+-- `turn::transport_turn` meets its contract. Assumes nothing.
 use mathlib.Core.Path.{sym, _∙_}
 use Rattle.slicer.proofs.Carries.{is-marked, is-udp, is-tcp, is-other}
 use borrow.Author.Needs.{needs}
 use Rattle.slicer.proofs.turn.transport_turn.Statement.{statement}
 use Rattle.slicer.proofs.turn.transport_turn.Tie as tie
-use Rattle.slicer.proofs.turn.transport_turn.Reads as reads
-use Rattle.slicer.proofs.turn.transport_turn.Lts as lts
 
--- src/turn.rt:114:9
 returns : tie.Need-returns
 returns c = λ p e. sym (is-marked p _ (e ∙ c .if1 .taken))
 
--- src/turn.rt:117:9
 returns-2 : tie.Need-returns-2
 returns-2 c = λ p e. sym (is-udp p _ (e ∙ c .before .if1 .left) (c .if2 .taken))
 
--- src/turn.rt:120:9
 returns-3 : tie.Need-returns-3
 returns-3 c = λ p e. sym (is-tcp p _ (e ∙ c .before .before .if1 .left) (c .before .if2 .left) (c .if3 .taken))
 
--- src/turn.rt:109:1
 returns-4 : tie.Need-returns-4
 returns-4 c = λ p e. sym (is-other p _ (e ∙ c .before .before .if1 .left) (c .before .if2 .left) (c .if3 .left))
 
