@@ -1,5 +1,5 @@
 -- A header's tests in order, and the first that fails.
-use Prim.Native.Nat.{ℕ, _≤_}
+use Prim.Native.Nat.{ℕ, _≤_, _<_}
 use mathlib.Core.Path.{_≡_, refl, ap, _∙_}
 use mathlib.Core.List.{List, [], _∷_}
 use mathlib.Core.Bool.{Bool, true, false}
@@ -117,3 +117,7 @@ unfolding judge
 judged (done e) = ap whole e
 judged (on {t} h j) = rw (pass t h) (judged j)
 judged (off {t} h e) = rw (fail t h) (ap failed e)
+
+-- a code's test that was taken: more is asked for than there is
+pub beyond : {a b : ℕ} → b < a → a ≤ b → ⊥
+beyond h k = omega arith

@@ -1,4 +1,5 @@
 -- `link::single_vlan_header::read_vlan` meets its contract. Assumes nothing.
+use Rattle.rules.specs.Test.{beyond}
 use mathlib.Core.Path.{refl}
 use Rattle.rules.specs.Rules.{says, testsBy, seenBy}
 use Rattle.rules.specs.Test.{on, off, done, judged}
@@ -12,7 +13,7 @@ too-short-requires c κs = search needs
 
 returns : tie.Need-returns
 unfolding says testsBy seenBy
-returns c = judged (off (omega arith) (cc))
+returns c = judged (off (beyond (c .before .if1 .taken)) (c .too-short .ensures))
 
 be16-requires : tie.Need-be16-requires
 be16-requires c κs = search needs

@@ -1,4 +1,5 @@
 -- `net::ip_auth_header::read_auth` meets its contract. Assumes nothing.
+use Rattle.rules.specs.Test.{beyond}
 use mathlib.Core.Path.{refl}
 use Rattle.rules.specs.Rules.{says, testsBy, seenBy}
 use Rattle.rules.specs.Test.{on, off, done, judged}
@@ -12,7 +13,7 @@ too-short-requires c κs = search needs
 
 returns : tie.Need-returns
 unfolding says testsBy seenBy
-returns c = judged (off (omega arith) (cc))
+returns c = judged (off (beyond (c .before .if1 .taken)) (c .too-short .ensures))
 
 byte-requires : tie.Need-byte-requires
 byte-requires c κs = search needs
@@ -35,7 +36,7 @@ too-short-requires-2 c κs = search needs
 
 returns-3 : tie.Need-returns-3
 unfolding says testsBy seenBy
-returns-3 c = simp (← c .before .before .before .byte .ensures) (judged (on (c .before .before .before .before .if1 .left) (on (omega arith) (off (omega arith) (cc)))))
+returns-3 c = simp (← c .before .before .before .byte .ensures) (judged (on (c .before .before .before .before .if1 .left) (on (omega arith) (off (beyond (c .before .if3 .taken)) (c .too-short2 .ensures)))))
 
 byte-requires-2 : tie.Need-byte-requires-2
 byte-requires-2 c κs = search needs

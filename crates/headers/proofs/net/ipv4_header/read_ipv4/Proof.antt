@@ -1,4 +1,5 @@
 -- `net::ipv4_header::read_ipv4` meets its contract. Assumes nothing.
+use Rattle.rules.specs.Test.{beyond}
 use mathlib.Core.Path.{refl}
 use Rattle.rules.specs.Rules.{says, testsBy, seenBy}
 use Rattle.rules.specs.Test.{on, off, done, judged}
@@ -12,7 +13,7 @@ too-short-requires c κs = search needs
 
 returns : tie.Need-returns
 unfolding says testsBy seenBy
-returns c = judged (off (omega arith) (cc))
+returns c = judged (off (beyond (c .before .if1 .taken)) (c .too-short .ensures))
 
 byte-requires : tie.Need-byte-requires
 byte-requires c κs = search needs
@@ -26,7 +27,7 @@ returns-2 c = simp (← c .before .byte .ensures) (judged (on (c .before .before
 
 returns-3 : tie.Need-returns-3
 unfolding says testsBy seenBy
-returns-3 c = simp (← c .before .before .byte .ensures) (judged (on (c .before .before .before .if1 .left) (on (c .before .if2 .left) (off (omega arith) (refl)))))
+returns-3 c = simp (← c .before .before .byte .ensures) (judged (on (c .before .before .before .if1 .left) (on (c .before .if2 .left) (off (beyond (c .if3 .taken)) refl))))
 
 mul-len : tie.Need-mul-len
 mul-len c = search needs
@@ -36,7 +37,7 @@ too-short-requires-2 c κs = search needs
 
 returns-4 : tie.Need-returns-4
 unfolding says testsBy seenBy
-returns-4 c = simp (← c .before .before .before .before .byte .ensures) (judged (on (c .before .before .before .before .before .if1 .left) (on (c .before .before .before .if2 .left) (on (c .before .before .if3 .left) (off (omega arith) (cc))))))
+returns-4 c = simp (← c .before .before .before .before .byte .ensures) (judged (on (c .before .before .before .before .before .if1 .left) (on (c .before .before .before .if2 .left) (on (c .before .before .if3 .left) (off (beyond (c .before .if4 .taken)) (c .too-short2 .ensures))))))
 
 be16-requires : tie.Need-be16-requires
 be16-requires c κs = search needs
@@ -46,11 +47,11 @@ cast-total c = search needs
 
 returns-5 : tie.Need-returns-5
 unfolding says testsBy seenBy
-returns-5 c = simp (← c .before .before .before .before .before .byte .ensures, ← c .before .be16 .ensures) (judged (on (c .before .before .before .before .before .before .if1 .left) (on (c .before .before .before .before .if2 .left) (on (c .before .before .before .if3 .left) (on (c .before .before .if4 .left) (off (omega arith) (refl)))))))
+returns-5 c = simp (← c .before .before .before .before .before .byte .ensures, ← c .before .be16 .ensures) (judged (on (c .before .before .before .before .before .before .if1 .left) (on (c .before .before .before .before .if2 .left) (on (c .before .before .before .if3 .left) (on (c .before .before .if4 .left) (off (beyond (c .if5 .taken)) refl))))))
 
 returns-6 : tie.Need-returns-6
 unfolding says testsBy seenBy
-returns-6 c = simp (← c .before .before .before .before .before .before .byte .ensures, ← c .before .before .be16 .ensures) (judged (on (c .before .before .before .before .before .before .before .if1 .left) (on (c .before .before .before .before .before .if2 .left) (on (c .before .before .before .before .if3 .left) (on (c .before .before .before .if4 .left) (on (c .before .if5 .left) (off (omega arith) (refl))))))))
+returns-6 c = simp (← c .before .before .before .before .before .before .byte .ensures, ← c .before .before .be16 .ensures) (judged (on (c .before .before .before .before .before .before .before .if1 .left) (on (c .before .before .before .before .before .if2 .left) (on (c .before .before .before .before .if3 .left) (on (c .before .before .before .if4 .left) (on (c .before .if5 .left) (off (beyond (c .if6 .taken)) refl)))))))
 
 be16-requires-2 : tie.Need-be16-requires-2
 be16-requires-2 c κs = search needs

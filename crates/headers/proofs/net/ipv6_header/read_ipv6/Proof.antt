@@ -1,4 +1,5 @@
 -- `net::ipv6_header::read_ipv6` meets its contract. Assumes nothing.
+use Rattle.rules.specs.Test.{beyond}
 use borrow.Author.Tests.{eq-eqb, ne-eqb}
 use mathlib.Core.Path.{refl}
 use Rattle.rules.specs.Rules.{says, testsBy, seenBy}
@@ -13,7 +14,7 @@ too-short-requires c κs = search needs
 
 returns : tie.Need-returns
 unfolding says testsBy seenBy
-returns c = judged (off (omega arith) (cc))
+returns c = judged (off (beyond (c .before .if1 .taken)) (c .too-short .ensures))
 
 byte-requires : tie.Need-byte-requires
 byte-requires c κs = search needs
@@ -43,7 +44,7 @@ add-declared c = search needs
 
 returns-4 : tie.Need-returns-4
 unfolding says testsBy seenBy
-returns-4 c = simp (← c .before .before .before .before .before .byte .ensures, ← c .before .before .before .be16 .ensures) (judged (on (c .before .before .before .before .before .before .if1 .left) (on (c .before .before .before .before .if2 .left) (off (omega arith) (refl)))))
+returns-4 c = simp (← c .before .before .before .before .before .byte .ensures, ← c .before .before .before .be16 .ensures) (judged (on (c .before .before .before .before .before .before .if1 .left) (on (c .before .before .before .before .if2 .left) (off (beyond (c .if4 .taken)) refl))))
 
 returns-5 : tie.Need-returns-5
 unfolding says testsBy seenBy

@@ -1,4 +1,5 @@
 -- `net::ipv6_raw_ext_header::read_raw_ext` meets its contract. Assumes nothing.
+use Rattle.rules.specs.Test.{beyond}
 use mathlib.Core.Path.{refl}
 use Rattle.rules.specs.Rules.{says, testsBy, seenBy}
 use Rattle.rules.specs.Test.{on, off, done, judged}
@@ -12,7 +13,7 @@ too-short-requires c κs = search needs
 
 returns : tie.Need-returns
 unfolding says testsBy seenBy
-returns c = judged (off (omega arith) (cc))
+returns c = judged (off (beyond (c .before .if1 .taken)) (c .too-short .ensures))
 
 byte-requires : tie.Need-byte-requires
 byte-requires c κs = search needs
@@ -31,7 +32,7 @@ too-short-requires-2 c κs = search needs
 
 returns-2 : tie.Need-returns-2
 unfolding says testsBy seenBy
-returns-2 c = simp (← c .before .before .byte .ensures) (judged (on (c .before .before .before .if1 .left) (off (omega arith) (cc))))
+returns-2 c = simp (← c .before .before .byte .ensures) (judged (on (c .before .before .before .if1 .left) (off (beyond (c .before .if2 .taken)) (c .too-short2 .ensures))))
 
 byte-requires-2 : tie.Need-byte-requires-2
 byte-requires-2 c κs = search needs

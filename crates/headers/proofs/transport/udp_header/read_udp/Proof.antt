@@ -1,4 +1,5 @@
 -- `transport::udp_header::read_udp` meets its contract. Assumes nothing.
+use Rattle.rules.specs.Test.{beyond}
 use borrow.Author.Tests.{eq-eqb, ne-eqb}
 use mathlib.Core.Path.{refl}
 use Rattle.rules.specs.Rules.{says, testsBy, seenBy}
@@ -13,7 +14,7 @@ too-short-requires c κs = search needs
 
 returns : tie.Need-returns
 unfolding says testsBy seenBy
-returns c = judged (off (omega arith) (cc))
+returns c = judged (off (beyond (c .before .if1 .taken)) (c .too-short .ensures))
 
 be16-requires : tie.Need-be16-requires
 be16-requires c κs = search needs
@@ -27,11 +28,11 @@ returns-2 c = simp (← c .before .be16 .ensures, eq-eqb _ 0 (c .if2 .taken)) (j
 
 returns-3 : tie.Need-returns-3
 unfolding says testsBy seenBy
-returns-3 c = simp (← c .before .before .be16 .ensures, ne-eqb _ 0 (c .before .if2 .left)) (judged (on (c .before .before .before .if1 .left) (off (omega arith) (refl))))
+returns-3 c = simp (← c .before .before .be16 .ensures, ne-eqb _ 0 (c .before .if2 .left)) (judged (on (c .before .before .before .if1 .left) (off (beyond (c .if3 .taken)) refl)))
 
 returns-4 : tie.Need-returns-4
 unfolding says testsBy seenBy
-returns-4 c = simp (← c .before .before .before .be16 .ensures, ne-eqb _ 0 (c .before .before .if2 .left)) (judged (on (c .before .before .before .before .if1 .left) (on (c .before .if3 .left) (off (omega arith) (refl)))))
+returns-4 c = simp (← c .before .before .before .be16 .ensures, ne-eqb _ 0 (c .before .before .if2 .left)) (judged (on (c .before .before .before .before .if1 .left) (on (c .before .if3 .left) (off (beyond (c .if4 .taken)) refl))))
 
 returns-5 : tie.Need-returns-5
 unfolding says testsBy seenBy
