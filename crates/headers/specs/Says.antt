@@ -42,7 +42,8 @@ transportOnPaper (T.Refused f) = failed (faultOnPaper f)
 
 -- ---- the fields, by a kind's rule
 
--- the number named, as a link number and as an IP number
+-- the number named, as a link number and as an IP number; a link header names no IP number and an IP header no EtherType,
+-- so the zeros are never met
 abbrev pub linkNumber : Number → EtherType
 linkNumber (Link n) = n
 linkNumber (Ip n) = etherType 0
@@ -52,13 +53,13 @@ netNumber (Link n) = ipNumber 0
 netNumber (Ip n) = n
 
 abbrev pub ipFields : Rule → (ℕ → ℕ) → IpHeader
-ipFields r g = record { len = r .length g; declared = r .declared g; names = netNumber (r .names g); fragmented = r .marks g }
+ipFields r g = record { len = r .size g; declared = r .declared g; names = netNumber (r .names g); fragmented = r .marks g }
 
 abbrev pub extFields : Rule → (ℕ → ℕ) → ExtHeader
-extFields r g = record { len = r .length g; names = netNumber (r .names g); fragmenting = r .marks g }
+extFields r g = record { len = r .size g; names = netNumber (r .names g); fragmenting = r .marks g }
 
 abbrev pub transportFields : Rule → (ends : (ℕ → ℕ) → ℕ → ℕ) → (ℕ → ℕ) → ℕ → TransportHeader
-transportFields r ends g have = record { len = r .length g; end = ends g have }
+transportFields r ends g have = record { len = r .size g; end = ends g have }
 
 -- ---- what is said of the bytes w
 

@@ -93,7 +93,7 @@ pub record Rule : Type 0 where
   -- the tests after that, in order, by the IP version that it stands in (which no test of the base asks for)
   pub later : ℕ → (ℕ → ℕ) → ℕ → List Test
   -- the length that its own fields give
-  pub length : (ℕ → ℕ) → ℕ
+  pub size : (ℕ → ℕ) → ℕ
   -- the IP version that it begins, 0 for none
   pub version : ℕ
   -- demand 3's declared length of an IP header, 0 where it declares none
@@ -107,13 +107,13 @@ pub record Rule : Type 0 where
   pub payload : (ℕ → ℕ) → ℕ → Room → ℕ
 
 -- "Ethernet: 14 bytes, type at 12. Tag: 4 bytes, type at 2."
-abbrev pub linkRule : (length type : ℕ) → Rule
-linkRule length type =
+abbrev pub linkRule : (size type : ℕ) → Rule
+linkRule size type =
     record {
       deciding = type ∷ (type + 1) ∷ [];
-      least = length;
+      least = size;
       later = λ v g have. [];
-      length = λ g. length;
+      size = λ g. size;
       version = 0;
       declared = λ g. 0;
       marks = λ g. false;
@@ -135,7 +135,7 @@ ipv4Rule =
           ∷ fits Ipv4Packet (g 0 % 16 * 4) (number 2 g 2) B.Ipv4TotalLength
           ∷ fits Ipv4Packet (number 2 g 2) have B.Room
           ∷ [];
-      length = λ g. g 0 % 16 * 4;
+      size = λ g. g 0 % 16 * 4;
       version = 4;
       declared = λ g. number 2 g 2;
       marks = λ g. fragments (number 2 g 6 % 0x2000) (number 2 g 6 / 0x2000 % 2);
@@ -154,7 +154,7 @@ ipv6Rule =
       later = λ v g have. same (g 0 / 16) 6 (other Numbers.ipv6Version (Of Ipv6) (g 0 / 16))
           ∷ fits Ipv6Packet (Numbers.ipv6Length + number 2 g 4) have B.Room
           ∷ [];
-      length = λ g. Numbers.ipv6Length;
+      size = λ g. Numbers.ipv6Length;
       version = 6;
       declared = λ g. pick (eqb (number 2 g 4) 0) 0 (Numbers.ipv6Length + number 2 g 4);
       marks = λ g. false;
@@ -170,7 +170,7 @@ rawRule k =
       deciding = 0 ∷ 1 ∷ [];
       least = Numbers.rawLength;
       later = λ v g have. fits (Of k) ((g 1 + 1) * 8) have B.Room ∷ [];
-      length = λ g. (g 1 + 1) * 8;
+      size = λ g. (g 1 + 1) * 8;
       version = 0;
       declared = λ g. 0;
       marks = λ g. false;
@@ -187,7 +187,7 @@ fragmentRule =
       deciding = 0 ∷ 2 ∷ 3 ∷ [];
       least = Numbers.fragmentLength;
       later = λ v g have. [];
-      length = λ g. Numbers.fragmentLength;
+      size = λ g. Numbers.fragmentLength;
       version = 0;
       declared = λ g. 0;
       marks = λ g. fragments (number 2 g 2 / 8) (number 2 g 2 % 2);
@@ -204,7 +204,7 @@ authRule =
       deciding = 0 ∷ 1 ∷ [];
       least = Numbers.authLength;
       later = λ v g have. least 1 (g 1) (other Numbers.authLengthZero (Of Auth) 0) ∷ fits (Of Auth) ((g 1 + 2) * 4) have B.Room ∷ [];
-      length = λ g. (g 1 + 2) * 4;
+      size = λ g. (g 1 + 2) * 4;
       version = 0;
       declared = λ g. 0;
       marks = λ g. false;
@@ -223,7 +223,7 @@ udpRule =
       later = λ v g have. fits (Of Udp) Numbers.udpHeaderLength (udpEnd g have) B.UdpLength
           ∷ fits UdpPayload (udpEnd g have) have B.Room
           ∷ [];
-      length = λ g. Numbers.udpHeaderLength;
+      size = λ g. Numbers.udpHeaderLength;
       version = 0;
       declared = λ g. 0;
       marks = λ g. false;
@@ -241,7 +241,7 @@ tcpRule =
       later = λ v g have. least Numbers.leastWords (g 12 / 16) (other Numbers.dataOffsetBelow5 (Of Tcp) (g 12 / 16))
           ∷ fits (Of Tcp) (g 12 / 16 * 4) have B.Room
           ∷ [];
-      length = λ g. g 12 / 16 * 4;
+      size = λ g. g 12 / 16 * 4;
       version = 0;
       declared = λ g. 0;
       marks = λ g. false;
@@ -272,7 +272,7 @@ abbrev pub leastLength : Kind → ℕ
 leastLength k = rule k .least
 
 unfoldable pub lengthOf : Kind → (ℕ → ℕ) → ℕ
-lengthOf k = rule k .length
+lengthOf k = rule k .size
 
 unfoldable pub declaredOf : Kind → (ℕ → ℕ) → ℕ
 declaredOf k = rule k .declared

@@ -62,7 +62,7 @@ header e = record { at = e .at; len = e .len; kind = e .kind }
 pub data Answer (A : Type 0) : Type 0 where
   is : A → Answer A
   no-more : Answer A
-  not : Row → Answer A
+  refusal : Row → Answer A
 
 abbrev pub nth : {A : Type 0} → List A → ℕ → Answer A
 nth [] k = no-more
@@ -73,12 +73,12 @@ nth (h ∷ hs) (suc k) = nth hs k
 -- the answer is "no more"."
 unfoldable pub headerOf : Trace Entry → ℕ → Answer Header
 headerOf (accepted hs x) k = nth (map header hs) k
-headerOf (refused hs r) k = not r
+headerOf (refused hs r) k = refusal r
 headerOf unfinished k = no-more
 
 unfoldable pub countOf : Trace Entry → Answer ℕ
 countOf (accepted hs x) = is (length hs)
-countOf (refused hs r) = not r
+countOf (refused hs r) = refusal r
 countOf unfinished = no-more
 
 -- the whole walk of a frame, by the kind of its first header

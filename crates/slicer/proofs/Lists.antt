@@ -22,7 +22,7 @@ use Rattle.rules.specs.declared.stop.Stop.{Stop}
 use Rattle.rules.specs.Numbers.{hopByHopNotAtStart}
 use Rattle.rules.specs.Test.{pick, row}
 use Rattle.rules.specs.Place.{room, place, tagsWith, ipsWith, start, follow, next, Found, reads, refuses, read}
-use Rattle.rules.specs.Walk.{Trace, accepted, refused, unfinished, Entry, entry, header, Answer, is, no-more, not, nth, headerOf, countOf, trace, slices}
+use Rattle.rules.specs.Walk.{Trace, accepted, refused, unfinished, Entry, entry, header, Answer, is, no-more, refusal, nth, headerOf, countOf, trace, slices}
 use Rattle.laws.specs.Gather.{gather, gathered, listed, rest, rest-next, rest-halt, rest-wrong, gather-whole, gather-refused}
 use Rattle.laws.specs.Reads.{Ahead, goes}
 use Rattle.laws.specs.Walks.{finished}
@@ -178,10 +178,10 @@ header-of k unfinished e = cc
 
 -- ---- a refused frame
 
-refusal-of : (k : ℕ) (t : Trace Entry) {q : Row} → gathered (listWay k) nothingListed t ≡ shut q → (t ≡ unfinished → ⊥) → (not q ≡ headerOf t k) × (not q ≡ countOf t)
+refusal-of : (k : ℕ) (t : Trace Entry) {q : Row} → gathered (listWay k) nothingListed t ≡ shut q → (t ≡ unfinished → ⊥) → (refusal q ≡ headerOf t k) × (refusal q ≡ countOf t)
 unfolding gathered headerOf countOf
 refusal-of k (accepted hs x) e n = (cc, cc)
-refusal-of k (refused hs r) {q} e n = let z : r ≡ q = cc in (ap not (sym z), ap not (sym z))
+refusal-of k (refused hs r) {q} e n = let z : r ≡ q = cc in (ap refusal (sym z), ap refusal (sym z))
 refusal-of k unfinished e n = absurd (n refl)
 
 -- ---- the answers of a frame
@@ -195,7 +195,7 @@ module _ (k : ℕ) (kind : Kind) (s : List ℕ) {o : Lists} (e : o ≡ gather (l
   unfolding gather slices
   count-is r = count-of k (trace s (start kind s)) (sym e ∙ r)
 
-  pub refusal-is : {q : Row} → o ≡ shut q → (not q ≡ headerOf (slices kind s) k) × (not q ≡ countOf (slices kind s))
+  pub refusal-is : {q : Row} → o ≡ shut q → (refusal q ≡ headerOf (slices kind s) k) × (refusal q ≡ countOf (slices kind s))
   unfolding gather slices
   refusal-is r = refusal-of k (trace s (start kind s)) (sym e ∙ r) (finished s (start kind s))
 

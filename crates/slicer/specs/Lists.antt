@@ -12,7 +12,7 @@ use Rattle.rules.specs.declared.refusal.Row.{Row}
 use Rattle.rules.specs.Test.{pick, row}
 use Rattle.rules.specs.Paper.{refusalOnPaper}
 use Rattle.rules.specs.Place.{refuses}
-use Rattle.rules.specs.Walk.{header, Answer, is, no-more, not}
+use Rattle.rules.specs.Walk.{header, Answer, is, no-more, refusal}
 use Rattle.laws.specs.Gather.{Way}
 use Rattle.slicer.specs.declared.list.HeaderAnswer.{HeaderAnswer}
 use Rattle.slicer.specs.declared.list.HeaderAnswer.the-variants as H
@@ -29,11 +29,11 @@ use Rattle.slicer.specs.Steps.{readingOnPaper}
 abbrev pub headerOnPaper : HeaderAnswer → Answer Header
 headerOnPaper (H.Is h) = is h
 headerOnPaper H.NoMore = no-more
-headerOnPaper (H.Refused r) = not (refusalOnPaper r)
+headerOnPaper (H.Refused r) = refusal (refusalOnPaper r)
 
 abbrev pub countOnPaper : CountAnswer → Answer ℕ
 countOnPaper (C.Is n) = is n
-countOnPaper (C.Refused r) = not (refusalOnPaper r)
+countOnPaper (C.Refused r) = refusal (refusalOnPaper r)
 
 -- ---- the walk that gathers both
 

@@ -1,7 +1,7 @@
 -- `link::single_vlan_header::read_vlan` meets its contract. Assumes nothing.
 use Rattle.rules.specs.Test.{beyond}
-use mathlib.Core.Path.{refl}
-use Rattle.rules.specs.Rules.{says, testsBy, seenBy}
+use mathlib.Core.Path.{ap}
+use Rattle.rules.specs.Rules.{says, testsBy, seenBy, etherType}
 use Rattle.rules.specs.Test.{on, off, done, judged}
 use native.Mathlib.Omega.{arith}
 use borrow.Author.Needs.{needs}
@@ -20,7 +20,7 @@ be16-requires c κs = search needs
 
 returns-2 : tie.Need-returns-2
 unfolding says testsBy seenBy
-returns-2 c = simp (← c .be16 .ensures) (judged (on (c .before .if1 .left) (done (refl))))
+returns-2 c = judged (on (c .before .if1 .left) (done (ap etherType (c .be16 .ensures))))
 
 pub read-vlan-spec : {M : Type 1} → statement M
 read-vlan-spec = tie.close (tie.spec too-short-requires returns be16-requires returns-2)

@@ -28,19 +28,19 @@ returns : tie.Need-returns
 returns c = rw (c .source .ensures, c .before .before .self .given .1)
 
 returns-2 : tie.Need-returns-2
-returns-2 c = cc
+returns-2 c = rw (c .before .self2 .given .1)
 
 returns-3 : tie.Need-returns-3
-returns-3 c = cc
+returns-3 c = rw (c .before .self3 .given .1)
 
 returns-4 : tie.Need-returns-4
-returns-4 c = cc
+returns-4 c = rw (c .before .self4 .given .1)
 
 returns-5 : tie.Need-returns-5
 returns-5 c = cc
 
 returns-6 : tie.Need-returns-6
-returns-6 c = cc
+returns-6 c = rw (c .before .self5 .given .1)
 
 pub at-spec : {M : Type 1} → statement M
 at-spec =
