@@ -14,7 +14,7 @@ onward-same (halt x) f g h = refl
 onward-same (wrong r) f g h = refl
 
 -- two walks that agree behind every next place agree
-step-same : (p : Place) (r : Reading) (f g : Place → Trace Entry) → ((x : Found) (q : Place) → r ≡ reads x → x .follow ≡ next q → f q ≡ g q) → step p r f ≡ step p r g
+pub step-same : (p : Place) (r : Reading) (f g : Place → Trace Entry) → ((x : Found) (q : Place) → r ≡ reads x → x .follow ≡ next q → f q ≡ g q) → step p r f ≡ step p r g
 step-same p (refuses r) f g h = refl
 step-same p (reads x) f g h = ap (behind (entry p x)) (onward-same (x .follow) f g (λ q e. h x q refl e))
 

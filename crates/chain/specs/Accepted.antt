@@ -1,0 +1,49 @@
+-- "A frame is accepted exactly when it has a chain": for each entry, both ways.
+use Prim.Native.Nat.{ℕ}
+use mathlib.Core.Path.{_≡_, refl, sym, ap, _∙_, subst}
+use mathlib.Core.List.{List}
+use native.Mathlib.Omega.{arith}
+use Rattle.rules.specs.Place.{Stopped}
+use Rattle.rules.specs.Walk.{Trace, Entry}
+use Rattle.laws.specs.Gather.{gathered, listed}
+use Rattle.slicer.specs.declared.packet.Entry.{Entry as Given}
+use Rattle.slicer.specs.declared.packet.Ending.{Ending}
+use Rattle.slicer.specs.declared.packet.Outcome.{Outcome}
+use Rattle.slicer.specs.declared.packet.Outcome.the-variants as O
+use Rattle.slicer.specs.declared.packet.SlicedPacket.{SlicedPacket}
+use Rattle.slicer.specs.Reply.{entryKind, endingOnPaper, outcomeOnPaper, packetOnPaper, nothing, Ended, Reply, sliceWay, acceptedBy, replyOf}
+use Rattle.slicer.specs.Reply as P
+use Rattle.chain.specs.Chain.{ChainOf}
+use Rattle.chain.specs.Walked.{Walked, whole-walk, broken-walk, walked, chain→slices}
+use Rattle.chain.specs.Answers.{Sliced}
+
+-- a chain of the frame, by its entry, with the headers hs and the stop x
+abbrev pub HasChain : Given → List ℕ → List Entry → Stopped → Type 0
+HasChain entry s hs x = ChainOf (entryKind entry) s hs x
+
+-- a frame with a chain is accepted: the stop is the chain's, and the parts are gathered from its headers
+pub chain→reply : (entry : Given) (s : List ℕ) {hs : List Entry} {x : Stopped} (r : SlicedPacket) → Sliced entry s r → HasChain entry s hs x
+    → packetOnPaper r ≡ acceptedBy (listed sliceWay nothing hs) x
+unfolding replyOf gathered
+chain→reply entry s r e c = e ∙ rw (chain→slices (entryKind entry) s c)
+
+is-accepted : (o : Outcome) {x : Stopped} → outcomeOnPaper o ≡ P.accepted x → (e : Ending) × (o ≡ O.Accepted e) × (endingOnPaper e ≡ x)
+is-accepted (O.Accepted e) q = (e, refl, cc)
+is-accepted (O.Refused r) q = let z : _≡_ {A = ℕ} 0 1 = cc in absurd (omega arith)
+
+pub chain→accepted : (entry : Given) (s : List ℕ) {hs : List Entry} {x : Stopped} (r : SlicedPacket) → Sliced entry s r → HasChain entry s hs x
+    → (e : Ending) × (r .outcome ≡ O.Accepted e) × (endingOnPaper e ≡ x)
+chain→accepted entry s r e c = is-accepted (r .outcome) (ap (λ (p : Reply). p .ended) (chain→reply entry s r e c))
+
+-- an accepted frame has a chain, with the stop that the reply tells
+pub accepted→chain : (entry : Given) (s : List ℕ) (r : SlicedPacket) {e : Ending} → Sliced entry s r → r .outcome ≡ O.Accepted e
+    → (hs : List Entry) × HasChain entry s hs (endingOnPaper e)
+unfolding replyOf gathered
+accepted→chain entry s r {e} q o = go (walked (entryKind entry) s) (sym (ap outcomeOnPaper o) ∙ ap (λ (p : Reply). p .ended) q)
+  where
+    go : {t : Trace Entry} → Walked (entryKind entry) s t → P.accepted (endingOnPaper e) ≡ gathered sliceWay nothing t .ended → (hs : List Entry) × HasChain entry s hs (endingOnPaper e)
+    go (whole-walk {hs} {x} c) y = (hs, subst (HasChain entry s hs) (unaccept y) c)
+      where
+        unaccept : {a b : Stopped} → P.accepted a ≡ P.accepted b → b ≡ a
+        unaccept e = cc
+    go (broken-walk b) y = let w : _≡_ {A = ℕ} 0 1 = cc in absurd (omega arith)

@@ -1,0 +1,24 @@
+-- What the public functions promise of their answers, as their `ensures` have it. The theorems speak of any answer that is so; code
+-- that answered otherwise would not pass its own contract.
+use Prim.Native.Nat.{ℕ}
+use mathlib.Core.Path.{_≡_}
+use mathlib.Core.List.{List}
+use Rattle.rules.specs.Walk.{headerOf, countOf, slices}
+use Rattle.slicer.specs.declared.packet.Entry.{Entry}
+use Rattle.slicer.specs.declared.packet.SlicedPacket.{SlicedPacket}
+use Rattle.slicer.specs.declared.list.HeaderAnswer.{HeaderAnswer}
+use Rattle.slicer.specs.declared.list.CountAnswer.{CountAnswer}
+use Rattle.slicer.specs.Reply.{entryKind, packetOnPaper, replyOf}
+use Rattle.slicer.specs.Lists.{headerOnPaper, countOnPaper}
+
+-- r is the answer of slice(s, entry)
+abbrev pub Sliced : Entry → List ℕ → SlicedPacket → Type 0
+Sliced entry s r = packetOnPaper r ≡ replyOf (entryKind entry) s
+
+-- r is the answer of header(s, entry, k)
+abbrev pub HeaderIs : Entry → List ℕ → ℕ → HeaderAnswer → Type 0
+HeaderIs entry s k r = headerOnPaper r ≡ headerOf (slices (entryKind entry) s) k
+
+-- r is the answer of count(s, entry)
+abbrev pub CountIs : Entry → List ℕ → CountAnswer → Type 0
+CountIs entry s r = countOnPaper r ≡ countOf (slices (entryKind entry) s)

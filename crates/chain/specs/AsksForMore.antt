@@ -1,0 +1,106 @@
+-- "Each short-length refusal asks for more than there was."
+use Prim.Native.Nat.{ℕ, _≤_, _<_, _-_}
+use mathlib.Core.Path.{_≡_, refl, sym, ap, _∙_}
+use mathlib.Core.List.{List, [], _∷_}
+use native.Mathlib.Omega.{arith}
+use Rattle.rules.specs.declared.kind.Kind.{Kind}
+use Rattle.rules.specs.declared.kind.Kind.the-variants.{Ethernet2, Vlan, Ipv4, Ipv6, HopByHop, Routing, Destination, Fragment, Auth, Udp, Tcp}
+use Rattle.rules.specs.declared.kind.Layer.{Layer}
+use Rattle.rules.specs.declared.kind.RoomSource.{RoomSource}
+use Rattle.rules.specs.declared.kind.Source.{Source}
+use Rattle.rules.specs.declared.place.Place.{Place}
+use Rattle.rules.specs.declared.refusal.Refusal.the-variants as R
+use Rattle.rules.specs.declared.refusal.Row.{Row}
+use Rattle.rules.specs.Numbers.{tooShort}
+use Rattle.rules.specs.Test.{Test, fits, least, same, Failure, short, other, placed}
+use Rattle.rules.specs.Rules.{tests, testsBy}
+use Rattle.rules.specs.Paper.{refusalOnPaper}
+use Rattle.rules.specs.Place.{bytes}
+use Rattle.rules.specs.Walk.{Entry}
+use Rattle.slicer.specs.declared.packet.Entry.{Entry as Given}
+use Rattle.slicer.specs.declared.packet.Outcome.the-variants as O
+use Rattle.slicer.specs.declared.packet.SlicedPacket.{SlicedPacket}
+use Rattle.slicer.specs.declared.list.HeaderAnswer.the-variants as H
+use Rattle.slicer.specs.declared.list.CountAnswer.the-variants as C
+use Rattle.chain.specs.Broken.{FirstFailed, this, later, Broken, fails, late-hop, more}
+use Rattle.chain.specs.Refused.{Breaks, reply→broken, header→broken, count→broken}
+use Rattle.chain.specs.Answers.{Sliced, HeaderIs, CountIs}
+
+-- refusal 1 is a failed length test and no other: a test that is none carries another number
+abbrev NotShort : Failure → Type 0
+NotShort (short layer required have bound) = ⊥
+NotShort (other n layer value) = n ≡ tooShort → ⊥
+
+abbrev Fair : Test → Type 0
+Fair (fits layer required have bound) = Unit
+Fair (least a b f) = NotShort f
+Fair (same a b f) = NotShort f
+
+abbrev AllFair : List Test → Type 0
+AllFair [] = Unit
+AllFair (t ∷ ts) = Fair t × AllFair ts
+
+fair : (k : Kind) (v : ℕ) (g : ℕ → ℕ) (have : ℕ) → AllFair (tests k v g have)
+unfolding testsBy
+fair Ethernet2 v g have = (tt, tt)
+fair Vlan v g have = (tt, tt)
+fair Ipv4 v g have = (tt, (λ e. omega arith, (λ e. omega arith, (tt, (tt, (tt, tt))))))
+fair Ipv6 v g have = (tt, (λ e. omega arith, (tt, tt)))
+fair HopByHop v g have = (tt, (tt, tt))
+fair Routing v g have = (tt, (tt, tt))
+fair Destination v g have = (tt, (tt, tt))
+fair Fragment v g have = (tt, tt)
+fair Auth v g have = (tt, (λ e. omega arith, (tt, tt)))
+fair Udp v g have = (tt, (tt, (tt, tt)))
+fair Tcp v g have = (tt, (λ e. omega arith, (tt, tt)))
+
+-- a failure that is short asks for more than there was
+abbrev Sound : Failure → Type 0
+Sound (short layer required have bound) = have < required
+Sound (other n layer value) = n ≡ tooShort → ⊥
+
+not-short : (f : Failure) → NotShort f → Sound f
+not-short (short layer required have bound) h = absurd h
+not-short (other n layer value) h = h
+
+sound : {ts : List Test} {f : Failure} → AllFair ts → FirstFailed ts f → Sound f
+sound a (this {t = fits layer required have bound} h) = omega arith
+sound a (this {t = least x y f} h) = not-short f (a .0)
+sound a (this {t = same x y f} h) = not-short f (a .0)
+sound a (later h b) = sound (a .1) b
+
+-- of a row: its values are then required and have, in this order
+pub Asks : Row → Type 0
+Asks r = (required have source : ℕ) → r .number ≡ tooShort → r .values ≡ required ∷ have ∷ source ∷ [] → have < required
+
+asks : (f : Failure) (at : ℕ) (room : RoomSource) → Sound f → Asks (placed f at room)
+unfolding Asks
+asks (short layer a b bound) at room h required have source n v = omega (arith, h, first v, second v)
+  where
+    first : {x y z x′ y′ z′ : ℕ} → _≡_ {A = List ℕ} (x ∷ y ∷ z ∷ []) (x′ ∷ y′ ∷ z′ ∷ []) → x ≡ x′
+    first e = cc
+    second : {x y z x′ y′ z′ : ℕ} → _≡_ {A = List ℕ} (x ∷ y ∷ z ∷ []) (x′ ∷ y′ ∷ z′ ∷ []) → y ≡ y′
+    second e = cc
+asks (other m layer value) at room h required have source n v = absurd (h n)
+
+pub row-asks-for-more : {s : List ℕ} {p : Place} {hs : List Entry} {r : Row} → Broken s p hs r → Asks r
+unfolding Asks
+row-asks-for-more {s} (fails {p} {f} b) = asks f (p .at) (p .room .source) (sound (fair (p .kind) (p .room .version) (bytes s p) (p .room .end - p .at)) b)
+row-asks-for-more (late-hop h e) = λ required have source n v. absurd (omega arith)
+row-asks-for-more (more h l b) = row-asks-for-more b
+
+-- ---- short-asks-for-more: for the reply, header k and the count
+
+module _ (entry : Given) (s : List ℕ) (offset required have : ℕ) (layer : Layer) (source : Source) where
+  asked : {hs : List Entry} → Breaks entry s hs (refusalOnPaper (R.TooShort offset required have layer source)) → have < required
+  unfolding Asks
+  asked b = row-asks-for-more b required have _ refl refl
+
+  pub reply-asks-for-more : (a : SlicedPacket) → Sliced entry s a → a .outcome ≡ O.Refused (R.TooShort offset required have layer source) → have < required
+  reply-asks-for-more a e o = asked (reply→broken entry s (R.TooShort offset required have layer source) a e o .1)
+
+  pub header-asks-for-more : (k : ℕ) → HeaderIs entry s k (H.Refused (R.TooShort offset required have layer source)) → have < required
+  header-asks-for-more k e = asked (header→broken entry s (R.TooShort offset required have layer source) k e .1)
+
+  pub count-asks-for-more : CountIs entry s (C.Refused (R.TooShort offset required have layer source)) → have < required
+  count-asks-for-more e = asked (count→broken entry s (R.TooShort offset required have layer source) e .1)

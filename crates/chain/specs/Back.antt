@@ -1,0 +1,196 @@
+-- From the paper back to the answer: every answer can be read off its numbers and values, so no two answers have the same.
+use Prim.Native.Nat.{ℕ}
+use mathlib.Core.Path.{_≡_, refl, sym, ap, _∙_}
+use mathlib.Core.List.{List}
+use lib.ListN.{getD}
+use lib.Dec.{eqb}
+use Rattle.rules.specs.declared.ether_type.EtherType.{EtherType}
+use Rattle.rules.specs.declared.kind.Source.{Source}
+use Rattle.rules.specs.declared.kind.Source.the-variants as S
+use Rattle.rules.specs.declared.place.Header.{Header}
+use Rattle.rules.specs.declared.refusal.Fault.{Fault}
+use Rattle.rules.specs.declared.refusal.Fault.the-variants as F
+use Rattle.rules.specs.declared.refusal.Refusal.{Refusal}
+use Rattle.rules.specs.declared.refusal.Refusal.the-variants as R
+use Rattle.rules.specs.declared.refusal.Row.{Row}
+use Rattle.rules.specs.declared.stop.Stop.{Stop}
+use Rattle.rules.specs.declared.stop.Stop.the-variants as T
+use Rattle.rules.specs.Test.{pick, sourceNumber, Failure, short, other, Outcome, whole, failed}
+use Rattle.rules.specs.Paper.{stopNumber, faultOnPaper, refusalOnPaper}
+use Rattle.rules.specs.Place.{Stopped}
+use Rattle.rules.specs.Walk.{Answer, is, no-more, refusal}
+use Rattle.headers.specs.declared.link.LinkRead.{LinkRead}
+use Rattle.headers.specs.declared.link.LinkRead.the-variants as HL
+use Rattle.headers.specs.declared.net.IpHeader.{IpHeader}
+use Rattle.headers.specs.declared.net.IpRead.{IpRead}
+use Rattle.headers.specs.declared.net.IpRead.the-variants as HI
+use Rattle.headers.specs.declared.net.ExtHeader.{ExtHeader}
+use Rattle.headers.specs.declared.net.ExtRead.{ExtRead}
+use Rattle.headers.specs.declared.net.ExtRead.the-variants as HE
+use Rattle.headers.specs.declared.transport.TransportHeader.{TransportHeader}
+use Rattle.headers.specs.declared.transport.TransportRead.{TransportRead}
+use Rattle.headers.specs.declared.transport.TransportRead.the-variants as HT
+use Rattle.headers.specs.Says.{linkOnPaper, ipOnPaper, extOnPaper, transportOnPaper}
+use Rattle.slicer.specs.declared.packet.Range.{Range}
+use Rattle.slicer.specs.declared.packet.Ending.{Ending}
+use Rattle.slicer.specs.declared.packet.Outcome.{Outcome as Ends}
+use Rattle.slicer.specs.declared.packet.Outcome.the-variants as O
+use Rattle.slicer.specs.declared.packet.SlicedPacket.{SlicedPacket}
+use Rattle.slicer.specs.declared.list.HeaderAnswer.{HeaderAnswer}
+use Rattle.slicer.specs.declared.list.HeaderAnswer.the-variants as H
+use Rattle.slicer.specs.declared.list.CountAnswer.{CountAnswer}
+use Rattle.slicer.specs.declared.list.CountAnswer.the-variants as C
+use Rattle.slicer.specs.declared.place.Step.{Step}
+use Rattle.slicer.specs.declared.place.Step.the-variants as N
+use Rattle.slicer.specs.Reply.{Ended, accepted, refused, Reply, endingOnPaper, outcomeOnPaper, packetOnPaper}
+use Rattle.slicer.specs.Lists.{headerOnPaper, countOnPaper}
+use Rattle.slicer.specs.Places.{Stepped, stepOnPaper}
+use Rattle.slicer.specs.Places as P
+
+-- an answer a, read off what `paper` makes of it
+pub record Back {A B : Type 0} (paper : A → B) : Type 0 where
+  pub back : B → A
+  pub same : (a : A) → back (paper a) ≡ a
+
+-- two answers that come to the same on paper are equal
+pub settled-by : {A B : Type 0} {paper : A → B} → Back paper → {x y : A} {z : B} → paper x ≡ z → paper y ≡ z → x ≡ y
+settled-by b {x} {y} e f = sym (b .same x) ∙ ap (b .back) (e ∙ sym f) ∙ b .same y
+
+-- ---- numbers
+
+pub source-back : Back sourceNumber
+source-back =
+    record {
+      back = λ n. pick (eqb n 1) S.Slice (pick (eqb n 2) S.Ipv4 (pick (eqb n 3) S.Ipv6 S.Udp));
+      same = elim [ S.Slice ↦ refl | S.Ipv4 ↦ refl | S.Ipv6 ↦ refl | S.Udp ↦ refl ];
+    }
+
+pub stop-back : Back stopNumber
+stop-back =
+    record {
+      back = λ n. pick (eqb n 1) T.EtherTypeNotOpened (pick (eqb n 2) T.TagsFull (pick (eqb n 3) T.Fragment (pick (eqb n 4) T.IpNumberNotOpened T.TransportRead)));
+      same = elim [ T.EtherTypeNotOpened ↦ refl | T.TagsFull ↦ refl | T.Fragment ↦ refl | T.IpNumberNotOpened ↦ refl | T.TransportRead ↦ refl ];
+    }
+
+-- ---- refusals
+
+refusalOf : Row → Refusal
+refusalOf r =
+    pick (eqb (r .number) 1) (R.TooShort (r .offset) (value 0) (value 1) (r .layer) (source-back .back (value 2)))
+    (pick (eqb (r .number) 2) (R.Ipv4Version (r .offset) (value 0))
+    (pick (eqb (r .number) 3) (R.SmallIhl (r .offset) (value 0))
+    (pick (eqb (r .number) 4) (R.Ipv6Version (r .offset) (value 0))
+    (pick (eqb (r .number) 5) (R.HopByHopNotAtStart (r .offset))
+    (pick (eqb (r .number) 6) (R.ZeroAuthLength (r .offset))
+    (R.SmallDataOffset (r .offset) (value 0)))))))
+  where
+    value : ℕ → ℕ
+    value i = getD (r .values) i 0
+
+refusal-same : (q : Refusal) → refusalOf (refusalOnPaper q) ≡ q
+unfolding refusalOf
+refusal-same (R.TooShort offset required have layer source) = ap (R.TooShort offset required have layer) (source-back .same source)
+refusal-same (R.Ipv4Version offset version) = refl
+refusal-same (R.SmallIhl offset ihl) = refl
+refusal-same (R.Ipv6Version offset version) = refl
+refusal-same (R.HopByHopNotAtStart offset) = refl
+refusal-same (R.ZeroAuthLength offset) = refl
+refusal-same (R.SmallDataOffset offset value) = refl
+
+pub refusal-back : Back refusalOnPaper
+refusal-back = record { back = refusalOf; same = refusal-same }
+
+faultOf : Failure → Fault
+faultOf (short layer required have bound) = F.TooShort required have layer bound
+faultOf (other n layer value) =
+    pick (eqb n 2) (F.Ipv4Version value)
+    (pick (eqb n 3) (F.SmallIhl value)
+    (pick (eqb n 4) (F.Ipv6Version value)
+    (pick (eqb n 6) F.ZeroAuthLength (F.SmallDataOffset value))))
+
+fault-same : (f : Fault) → faultOf (faultOnPaper f) ≡ f
+unfolding faultOf
+fault-same (F.TooShort required have layer bound) = refl
+fault-same (F.Ipv4Version version) = refl
+fault-same (F.SmallIhl ihl) = refl
+fault-same (F.Ipv6Version version) = refl
+fault-same F.ZeroAuthLength = refl
+fault-same (F.SmallDataOffset value) = refl
+
+pub fault-back : Back faultOnPaper
+fault-back = record { back = faultOf; same = fault-same }
+
+-- ---- the readers' answers
+
+read-off : {A B : Type 0} → (A → B) → (Fault → B) → Outcome A → B
+read-off w r (whole x) = w x
+read-off w r (failed f) = r (faultOf f)
+
+pub link-back : Back linkOnPaper
+unfolding read-off
+link-back = record { back = read-off HL.Whole HL.Refused; same = elim [ HL.Whole x ↦ refl | HL.Refused f ↦ ap HL.Refused (fault-same f) ] }
+
+pub ip-back : Back ipOnPaper
+unfolding read-off
+ip-back = record { back = read-off HI.Whole HI.Refused; same = elim [ HI.Whole x ↦ refl | HI.Refused f ↦ ap HI.Refused (fault-same f) ] }
+
+pub ext-back : Back extOnPaper
+unfolding read-off
+ext-back = record { back = read-off HE.Whole HE.Refused; same = elim [ HE.Whole x ↦ refl | HE.Refused f ↦ ap HE.Refused (fault-same f) ] }
+
+pub transport-back : Back transportOnPaper
+unfolding read-off
+transport-back = record { back = read-off HT.Whole HT.Refused; same = elim [ HT.Whole x ↦ refl | HT.Refused f ↦ ap HT.Refused (fault-same f) ] }
+
+-- ---- the slicer's answers
+
+pub ending-back : Back endingOnPaper
+ending-back =
+    record {
+      back = λ x. record { payload = record { at = x .at; len = x .len }; number = x .number; stop = stop-back .back (x .why) };
+      same = λ e i. record { payload = e .payload; number = e .number; stop = stop-back .same (e .stop) i };
+    }
+
+endsOf : Ended → Ends
+endsOf (accepted x) = O.Accepted (ending-back .back x)
+endsOf (refused r) = O.Refused (refusalOf r)
+
+pub outcome-back : Back outcomeOnPaper
+unfolding endsOf
+outcome-back = record { back = endsOf; same = elim [ O.Accepted e ↦ ap O.Accepted (ending-back .same e) | O.Refused q ↦ ap O.Refused (refusal-same q) ] }
+
+-- the unused slots of the tags included
+pub packet-back : Back packetOnPaper
+packet-back =
+    record {
+      back = λ p. record { tags = p .tags; count = p .count; net = p .net; link = p .link; transport = p .transport; outcome = outcome-back .back (p .ended) };
+      same = λ p i. record { tags = p .tags; count = p .count; net = p .net; link = p .link; transport = p .transport; outcome = outcome-back .same (p .outcome) i };
+    }
+
+headerAnswer : Answer Header → HeaderAnswer
+headerAnswer (is h) = H.Is h
+headerAnswer no-more = H.NoMore
+headerAnswer (refusal r) = H.Refused (refusalOf r)
+
+pub header-back : Back headerOnPaper
+unfolding headerAnswer
+header-back = record { back = headerAnswer; same = elim [ H.Is h ↦ refl | H.NoMore ↦ refl | H.Refused q ↦ ap H.Refused (refusal-same q) ] }
+
+countAnswer : Answer ℕ → CountAnswer
+countAnswer (is n) = C.Is n
+countAnswer no-more = C.Is 0
+countAnswer (refusal r) = C.Refused (refusalOf r)
+
+pub count-back : Back countOnPaper
+unfolding countAnswer
+count-back = record { back = countAnswer; same = elim [ C.Is n ↦ refl | C.Refused q ↦ ap C.Refused (refusal-same q) ] }
+
+stepOf : Stepped → Step
+stepOf (P.on len p) = N.Next len p
+stepOf (P.last len x) = N.Last len (ending-back .back x)
+stepOf (P.refused r) = N.Refused (refusalOf r)
+stepOf P.not-a-place = N.NotAPlace
+
+pub step-back : Back stepOnPaper
+unfolding stepOf
+step-back = record { back = stepOf; same = elim [ N.Next len p ↦ refl | N.Last len e ↦ ap (N.Last len) (ending-back .same e) | N.Refused q ↦ ap N.Refused (refusal-same q) | N.NotAPlace ↦ refl ] }

@@ -1,0 +1,60 @@
+-- Only the deciding bytes of the headers that are met matter: two frames of one length that agree on those get one walk.
+use Prim.Native.Nat.{ℕ, zero, suc, _-_}
+use mathlib.Core.Path.{_≡_, refl, sym, ap, _∙_}
+use mathlib.Core.List.{List}
+use lib.ListN.{length}
+use Rattle.rules.specs.declared.kind.Kind.{Kind}
+use Rattle.rules.specs.declared.place.Place.{Place}
+use Rattle.rules.specs.Place.{Found, next, bytes, outcome, read, start}
+use Rattle.rules.specs.Walk.{Trace, Entry, step, walk, trace, headerOf, countOf, slices}
+use Rattle.laws.specs.Gather.{gathered}
+use Rattle.laws.specs.Reads.{foundAt, Parts, parts}
+use Rattle.laws.specs.Walks.{step-same}
+use Rattle.slicer.specs.declared.packet.Entry.{Entry as Given}
+use Rattle.slicer.specs.declared.packet.SlicedPacket.{SlicedPacket}
+use Rattle.slicer.specs.declared.list.HeaderAnswer.{HeaderAnswer}
+use Rattle.slicer.specs.declared.list.CountAnswer.{CountAnswer}
+use Rattle.slicer.specs.Reply.{entryKind, nothing, sliceWay, replyOf}
+use Rattle.chain.specs.Chain.{Stands, Leads}
+use Rattle.chain.specs.Walked.{stands, next-leads}
+use Rattle.chain.specs.Agree.{AgreeAt, same-deciding}
+use Rattle.chain.specs.Answers.{Sliced, HeaderIs, CountIs}
+use Rattle.chain.specs.Back.{settled-by, packet-back, header-back, count-back}
+
+-- q is a place that the walk of s from p comes to, refused or not
+pub data Reach (s : List ℕ) : Place → Place → Type 0 where
+  here : {p : Place} → Reach s p p
+  onto : {p q r : Place} → Stands s p → Leads s p q → Reach s q r → Reach s p r
+
+pub same-read : (s t : List ℕ) (p : Place) → bytes s p ≡ bytes t p → read s p ≡ read t p
+unfolding read outcome
+same-read s t p e = rw e
+
+walks-agree : (n : ℕ) (s t : List ℕ) (p : Place) → ((q : Place) → Reach s p q → AgreeAt s t q) → walk n s p ≡ walk n t p
+unfolding walk
+walks-agree zero s t p h = refl
+walks-agree (suc n) s t p h =
+    step-same p (read s p) (walk n s) (walk n t)
+    (λ x q e f. let z = parts s p e in walks-agree n s t q (λ r m. h r (onto (stands s p (z .passed)) (next-leads s p (ap (λ (y : Found). y .follow) (sym (z .found)) ∙ f)) m)))
+    ∙ ap (λ r. step p r (walk n t)) (same-read s t p (same-deciding s t p (h p here)))
+
+pub deciding-bytes : (k : Kind) (s t : List ℕ) → length s ≡ length t → ((q : Place) → Reach s (start k s) q → AgreeAt s t q) → slices k s ≡ slices k t
+unfolding slices trace start
+deciding-bytes k s t e h = rw (← e) (walks-agree _ s t _ h)
+
+-- ---- for the public answers: frames of one length that agree on the deciding bytes of every header that the first one's walk
+-- comes to, the refused one included, get the same answers
+
+module _ (entry : Given) (s t : List ℕ) (e : length s ≡ length t) (h : (q : Place) → Reach s (start (entryKind entry) s) q → AgreeAt s t q) where
+  same-walk : slices (entryKind entry) t ≡ slices (entryKind entry) s
+  same-walk = sym (deciding-bytes (entryKind entry) s t e h)
+
+  pub same-reply : (a b : SlicedPacket) → Sliced entry s a → Sliced entry t b → a ≡ b
+  unfolding replyOf
+  same-reply a b f g = settled-by packet-back f (g ∙ ap (gathered sliceWay nothing) same-walk)
+
+  pub same-header : (k : ℕ) (a b : HeaderAnswer) → HeaderIs entry s k a → HeaderIs entry t k b → a ≡ b
+  same-header k a b f g = settled-by header-back f (g ∙ ap (λ (w : Trace Entry). headerOf w k) same-walk)
+
+  pub same-count : (a b : CountAnswer) → CountIs entry s a → CountIs entry t b → a ≡ b
+  same-count a b f g = settled-by count-back f (g ∙ ap countOf same-walk)

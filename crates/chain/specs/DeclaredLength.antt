@@ -1,0 +1,97 @@
+-- "Once an IP header is accepted whose declared length is nonzero, covers that header and fits the frame, bytes past that length,
+-- changed, added or taken away, alter no answer and no refusal under the same entry": two frames that agree up to the declared end of
+-- the outermost IP header get equal replies, equal answers for every header k, and equal counts, for each entry.
+-- "Demand 3's declared length is the total length, or 40 + payload length, counted as zero when payload length is 0": of an IPv6
+-- header with payload length 0 nothing is claimed, since its room is all that follows.
+use Prim.Native.Nat.{ℕ, zero, suc}
+use mathlib.Core.Path.{_≡_, refl, sym, ap, _∙_}
+use mathlib.Core.List.{List, [], _∷_, map}
+use lib.ListN.{length}
+use Rattle.rules.specs.declared.kind.Kind.{Kind}
+use Rattle.rules.specs.declared.kind.Kind.the-variants.{Ethernet2, Vlan, Ipv4, Ipv6, HopByHop, Routing, Destination, Fragment, Auth, Udp, Tcp}
+use Rattle.rules.specs.declared.place.Place.{Place}
+use Rattle.rules.specs.Place.{start}
+use Rattle.rules.specs.Walk.{Trace, accepted, refused, unfinished, Entry, header, is, nth, headerOf, countOf, slices}
+use Rattle.laws.specs.Gather.{Way, gathered, listed}
+use Rattle.slicer.specs.declared.packet.Entry.{Entry as Given}
+use Rattle.slicer.specs.declared.packet.SlicedPacket.{SlicedPacket}
+use Rattle.slicer.specs.declared.list.HeaderAnswer.{HeaderAnswer}
+use Rattle.slicer.specs.declared.list.CountAnswer.{CountAnswer}
+use Rattle.slicer.specs.Reply.{entryKind, packetOnPaper, replyOf, Parts, Reply, sliceWay, nothing, put}
+use Rattle.chain.specs.Agree.{ending}
+use Rattle.chain.specs.Twins.{Links, Declares, shown, endingIn, declared-length}
+use Rattle.chain.specs.Answers.{Sliced, HeaderIs, CountIs}
+use Rattle.chain.specs.Back.{settled-by, packet-back, header-back, count-back}
+
+-- a header with no word of where its room ends: no answer tells it
+abbrev blank : Entry → Entry
+blank e = endingIn e 0
+
+-- ---- no answer tells where a room ends
+
+put-blank : (k : Kind) (f : Parts) (e : Entry) → put k f e ≡ put k f (blank e)
+put-blank Ethernet2 f e = refl
+put-blank Vlan f e = refl
+put-blank Ipv4 f e = refl
+put-blank Ipv6 f e = refl
+put-blank HopByHop f e = refl
+put-blank Routing f e = refl
+put-blank Destination f e = refl
+put-blank Fragment f e = refl
+put-blank Auth f e = refl
+put-blank Udp f e = refl
+put-blank Tcp f e = refl
+
+listed-blank : (f : Parts) (hs : List Entry) → listed sliceWay f hs ≡ listed sliceWay f (map blank hs)
+unfolding listed
+listed-blank f [] = refl
+listed-blank f (e ∷ hs) = ap (λ (g : Parts). listed sliceWay g hs) (put-blank (e .kind) f e) ∙ listed-blank (put (e .kind) f (blank e)) hs
+
+reply-blank : (t : Trace Entry) → gathered sliceWay nothing t ≡ gathered sliceWay nothing (shown blank t)
+unfolding gathered
+reply-blank (accepted hs x) = ap (λ (f : Parts). sliceWay .done f x) (listed-blank nothing hs)
+reply-blank (refused hs r) = refl
+reply-blank unfinished = refl
+
+nth-blank : (hs : List Entry) (k : ℕ) → nth (map header hs) k ≡ nth (map header (map blank hs)) k
+nth-blank [] k = refl
+nth-blank (e ∷ hs) zero = refl
+nth-blank (e ∷ hs) (suc k) = nth-blank hs k
+
+header-blank : (t : Trace Entry) (k : ℕ) → headerOf t k ≡ headerOf (shown blank t) k
+unfolding headerOf
+header-blank (accepted hs x) k = nth-blank hs k
+header-blank (refused hs r) k = refl
+header-blank unfinished k = refl
+
+length-blank : (hs : List Entry) → length hs ≡ length (map blank hs)
+length-blank [] = refl
+length-blank (e ∷ hs) = ap suc (length-blank hs)
+
+count-blank : (t : Trace Entry) → countOf t ≡ countOf (shown blank t)
+unfolding countOf
+count-blank (accepted hs x) = ap is (length-blank hs)
+count-blank (refused hs r) = refl
+count-blank unfinished = refl
+
+-- ---- the theorem: an accepted outermost IP header at p declares a length, and t has all bytes of s up to it
+
+module _ (entry : Given) (s t : List ℕ) (p : Place) (l : Links s (start (entryKind entry) s) p) (d : Declares s t p) where
+  same-walk : shown blank (slices (entryKind entry) s) ≡ shown blank (slices (entryKind entry) t)
+  same-walk = declared-length blank (λ e n k. refl) (entryKind entry) s t p l d
+
+  pub same-reply : (a b : SlicedPacket) → Sliced entry s a → Sliced entry t b → a ≡ b
+  unfolding replyOf
+  same-reply a b e f =
+      settled-by packet-back e
+      (f ∙ reply-blank (slices (entryKind entry) t) ∙ sym (ap (gathered sliceWay nothing) same-walk) ∙ sym (reply-blank (slices (entryKind entry) s)))
+
+  pub same-header : (k : ℕ) (a b : HeaderAnswer) → HeaderIs entry s k a → HeaderIs entry t k b → a ≡ b
+  same-header k a b e f =
+      settled-by header-back e
+      (f ∙ header-blank (slices (entryKind entry) t) k ∙ sym (ap (λ (w : Trace Entry). headerOf w k) same-walk) ∙ sym (header-blank (slices (entryKind entry) s) k))
+
+  pub same-count : (a b : CountAnswer) → CountIs entry s a → CountIs entry t b → a ≡ b
+  same-count a b e f =
+      settled-by count-back e
+      (f ∙ count-blank (slices (entryKind entry) t) ∙ sym (ap countOf same-walk) ∙ sym (count-blank (slices (entryKind entry) s)))

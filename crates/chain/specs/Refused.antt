@@ -1,0 +1,92 @@
+-- "the refusal is that of the first test failed in walk order, and no refusal is given otherwise"; "Header k of a refused frame is
+-- that refusal for every k, and so is its count".
+use Prim.Native.Nat.{ℕ, zero, suc}
+use mathlib.Core.Path.{_≡_, refl, sym, ap, _∙_, subst}
+use mathlib.Core.List.{List, [], _∷_, map}
+use native.Mathlib.Omega.{arith}
+use Rattle.rules.specs.declared.refusal.Refusal.{Refusal}
+use Rattle.rules.specs.declared.refusal.Row.{Row}
+use Rattle.rules.specs.Paper.{refusalOnPaper}
+use Rattle.rules.specs.Walk.{Trace, Entry, header, is, no-more, refusal, nth, headerOf, countOf}
+use Rattle.laws.specs.Gather.{gathered}
+use Rattle.slicer.specs.declared.packet.Entry.{Entry as Given}
+use Rattle.slicer.specs.declared.packet.Outcome.{Outcome}
+use Rattle.slicer.specs.declared.packet.Outcome.the-variants as O
+use Rattle.slicer.specs.declared.packet.SlicedPacket.{SlicedPacket}
+use Rattle.slicer.specs.declared.list.HeaderAnswer.{HeaderAnswer}
+use Rattle.slicer.specs.declared.list.HeaderAnswer.the-variants as H
+use Rattle.slicer.specs.declared.list.CountAnswer.{CountAnswer}
+use Rattle.slicer.specs.declared.list.CountAnswer.the-variants as C
+use Rattle.slicer.specs.Reply.{entryKind, outcomeOnPaper, packetOnPaper, nothing, Reply, sliceWay, refusedBy, replyOf}
+use Rattle.slicer.specs.Reply as P
+use Rattle.slicer.specs.Lists.{headerOnPaper, countOnPaper}
+use Rattle.chain.specs.Broken.{BrokenOf}
+use Rattle.chain.specs.Walked.{Walked, whole-walk, broken-walk, walked, broken→slices}
+use Rattle.chain.specs.Answers.{Sliced, HeaderIs, CountIs}
+
+-- the walk of the frame, by its entry, breaks behind the headers hs with the row r
+abbrev pub Breaks : Given → List ℕ → List Entry → Row → Type 0
+Breaks entry s hs r = BrokenOf (entryKind entry) s hs r
+
+is-refused : (o : Outcome) {r : Row} → outcomeOnPaper o ≡ P.refused r → (q : Refusal) × (o ≡ O.Refused q) × (refusalOnPaper q ≡ r)
+is-refused (O.Accepted e) h = let z : _≡_ {A = ℕ} 0 1 = cc in absurd (omega arith)
+is-refused (O.Refused q) h = (q, refl, cc)
+
+is-header-refused : (a : HeaderAnswer) {r : Row} → headerOnPaper a ≡ refusal r → (q : Refusal) × (a ≡ H.Refused q) × (refusalOnPaper q ≡ r)
+is-header-refused (H.Is h) e = let z : _≡_ {A = ℕ} 0 1 = cc in absurd (omega arith)
+is-header-refused H.NoMore e = let z : _≡_ {A = ℕ} 0 1 = cc in absurd (omega arith)
+is-header-refused (H.Refused q) e = (q, refl, cc)
+
+is-count-refused : (a : CountAnswer) {r : Row} → countOnPaper a ≡ refusal r → (q : Refusal) × (a ≡ C.Refused q) × (refusalOnPaper q ≡ r)
+is-count-refused (C.Is n) e = let z : _≡_ {A = ℕ} 0 1 = cc in absurd (omega arith)
+is-count-refused (C.Refused q) e = (q, refl, cc)
+
+-- ---- a walk that breaks is refused with the row at which it breaks, whatever is asked
+
+module _ (entry : Given) (s : List ℕ) {hs : List Entry} {r : Row} (b : Breaks entry s hs r) where
+  -- and of the frame nothing else is told
+  pub broken→reply : (a : SlicedPacket) → Sliced entry s a → packetOnPaper a ≡ refusedBy r
+  unfolding replyOf gathered
+  broken→reply a e = e ∙ rw (broken→slices (entryKind entry) s b)
+
+  pub reply-refused : (a : SlicedPacket) → Sliced entry s a → (q : Refusal) × (a .outcome ≡ O.Refused q) × (refusalOnPaper q ≡ r)
+  reply-refused a e = is-refused (a .outcome) (ap (λ (p : Reply). p .ended) (broken→reply a e))
+
+  pub header-refused : (k : ℕ) (a : HeaderAnswer) → HeaderIs entry s k a → (q : Refusal) × (a ≡ H.Refused q) × (refusalOnPaper q ≡ r)
+  unfolding headerOf
+  header-refused k a e = is-header-refused a (e ∙ rw (broken→slices (entryKind entry) s b))
+
+  pub count-refused : (a : CountAnswer) → CountIs entry s a → (q : Refusal) × (a ≡ C.Refused q) × (refusalOnPaper q ≡ r)
+  unfolding countOf
+  count-refused a e = is-count-refused a (e ∙ rw (broken→slices (entryKind entry) s b))
+
+-- ---- refused-for-a-reason: a refusal is given only where the walk breaks, at that row
+
+module _ (entry : Given) (s : List ℕ) (q : Refusal) where
+  pub reply→broken : (a : SlicedPacket) → Sliced entry s a → a .outcome ≡ O.Refused q → (hs : List Entry) × Breaks entry s hs (refusalOnPaper q)
+  unfolding replyOf gathered
+  reply→broken a e o = go (walked (entryKind entry) s) (sym (ap outcomeOnPaper o) ∙ ap (λ (p : Reply). p .ended) e)
+    where
+      go : {t : Trace Entry} → Walked (entryKind entry) s t → P.refused (refusalOnPaper q) ≡ gathered sliceWay nothing t .ended → (hs : List Entry) × Breaks entry s hs (refusalOnPaper q)
+      go (whole-walk c) y = let w : _≡_ {A = ℕ} 0 1 = cc in absurd (omega arith)
+      go (broken-walk {hs} {r} b) y = let z : r ≡ refusalOnPaper q = cc in (hs, subst (Breaks entry s hs) z b)
+
+  pub header→broken : (k : ℕ) → HeaderIs entry s k (H.Refused q) → (hs : List Entry) × Breaks entry s hs (refusalOnPaper q)
+  unfolding headerOf
+  header→broken k e = go (walked (entryKind entry) s) e
+    where
+      nth-not : (hs : List Entry) (k : ℕ) {r : Row} → refusal r ≡ nth (map header hs) k → ⊥
+      nth-not [] k y = let w : _≡_ {A = ℕ} 0 1 = cc in omega arith
+      nth-not (h ∷ hs) zero y = let w : _≡_ {A = ℕ} 0 1 = cc in omega arith
+      nth-not (h ∷ hs) (suc k) y = nth-not hs k y
+      go : {t : Trace Entry} → Walked (entryKind entry) s t → refusal (refusalOnPaper q) ≡ headerOf t k → (hs : List Entry) × Breaks entry s hs (refusalOnPaper q)
+      go (whole-walk {hs} c) y = absurd (nth-not hs k y)
+      go (broken-walk {hs} {r} b) y = let z : r ≡ refusalOnPaper q = cc in (hs, subst (Breaks entry s hs) z b)
+
+  pub count→broken : CountIs entry s (C.Refused q) → (hs : List Entry) × Breaks entry s hs (refusalOnPaper q)
+  unfolding countOf
+  count→broken e = go (walked (entryKind entry) s) e
+    where
+      go : {t : Trace Entry} → Walked (entryKind entry) s t → refusal (refusalOnPaper q) ≡ countOf t → (hs : List Entry) × Breaks entry s hs (refusalOnPaper q)
+      go (whole-walk c) y = let w : _≡_ {A = ℕ} 0 1 = cc in absurd (omega arith)
+      go (broken-walk {hs} {r} b) y = let z : r ≡ refusalOnPaper q = cc in (hs, subst (Breaks entry s hs) z b)
