@@ -1,4 +1,4 @@
--- "A frame is accepted exactly when it has a chain": for each entry, both ways.
+-- "A frame is accepted exactly when it has a chain": accepted-iff-chain, for each entry.
 use Prim.Native.Nat.{ℕ}
 use mathlib.Core.Path.{_≡_, refl, sym, ap, _∙_, subst}
 use mathlib.Core.List.{List}
@@ -21,7 +21,13 @@ use Rattle.chain.specs.Answers.{Sliced}
 abbrev pub HasChain : Given → List ℕ → List Entry → Stopped → Type 0
 HasChain entry s hs x = ChainOf (entryKind entry) s hs x
 
--- a frame with a chain is accepted: the stop is the chain's, and the parts are gathered from its headers
+-- what is said of a reply r: where there is a chain it is accepted, with the chain's stop; where it is accepted there is a chain,
+-- with the stop that it tells
+pub record AcceptedIffChain (entry : Given) (s : List ℕ) (r : SlicedPacket) : Type 0 where
+  pub accepts : (hs : List Entry) (x : Stopped) → HasChain entry s hs x → (e : Ending) × (r .outcome ≡ O.Accepted e) × (endingOnPaper e ≡ x)
+  pub chained : (e : Ending) → r .outcome ≡ O.Accepted e → (hs : List Entry) × HasChain entry s hs (endingOnPaper e)
+
+-- the whole reply of a frame with a chain: the stop is the chain's, and the parts are gathered from its headers
 pub chain→reply : (entry : Given) (s : List ℕ) {hs : List Entry} {x : Stopped} (r : SlicedPacket) → Sliced entry s r → HasChain entry s hs x
     → packetOnPaper r ≡ acceptedBy (listed sliceWay nothing hs) x
 unfolding replyOf gathered
@@ -31,12 +37,11 @@ is-accepted : (o : Outcome) {x : Stopped} → outcomeOnPaper o ≡ P.accepted x 
 is-accepted (O.Accepted e) q = (e, refl, cc)
 is-accepted (O.Refused r) q = let z : _≡_ {A = ℕ} 0 1 = cc in absurd (omega arith)
 
-pub chain→accepted : (entry : Given) (s : List ℕ) {hs : List Entry} {x : Stopped} (r : SlicedPacket) → Sliced entry s r → HasChain entry s hs x
+chain→accepted : (entry : Given) (s : List ℕ) {hs : List Entry} {x : Stopped} (r : SlicedPacket) → Sliced entry s r → HasChain entry s hs x
     → (e : Ending) × (r .outcome ≡ O.Accepted e) × (endingOnPaper e ≡ x)
 chain→accepted entry s r e c = is-accepted (r .outcome) (ap (λ (p : Reply). p .ended) (chain→reply entry s r e c))
 
--- an accepted frame has a chain, with the stop that the reply tells
-pub accepted→chain : (entry : Given) (s : List ℕ) (r : SlicedPacket) {e : Ending} → Sliced entry s r → r .outcome ≡ O.Accepted e
+accepted→chain : (entry : Given) (s : List ℕ) (r : SlicedPacket) {e : Ending} → Sliced entry s r → r .outcome ≡ O.Accepted e
     → (hs : List Entry) × HasChain entry s hs (endingOnPaper e)
 unfolding replyOf gathered
 accepted→chain entry s r {e} q o = go (walked (entryKind entry) s) (sym (ap outcomeOnPaper o) ∙ ap (λ (p : Reply). p .ended) q)
@@ -47,3 +52,7 @@ accepted→chain entry s r {e} q o = go (walked (entryKind entry) s) (sym (ap ou
         unaccept : {a b : Stopped} → P.accepted a ≡ P.accepted b → b ≡ a
         unaccept e = cc
     go (broken-walk b) y = let w : _≡_ {A = ℕ} 0 1 = cc in absurd (omega arith)
+
+-- every answer of `slice` is so
+pub accepted-iff-chain : (entry : Given) (s : List ℕ) (r : SlicedPacket) → Sliced entry s r → AcceptedIffChain entry s r
+accepted-iff-chain entry s r q = record { accepts = λ hs x c. chain→accepted entry s r q c; chained = λ e o. accepted→chain entry s r q o }

@@ -9,6 +9,7 @@ use Rattle.rules.specs.declared.kind.Layer.{Layer}
 use Rattle.rules.specs.declared.kind.RoomSource.{RoomSource}
 use Rattle.rules.specs.declared.kind.Source.{Source}
 use Rattle.rules.specs.declared.place.Place.{Place}
+use Rattle.rules.specs.declared.refusal.Refusal.{Refusal}
 use Rattle.rules.specs.declared.refusal.Refusal.the-variants as R
 use Rattle.rules.specs.declared.refusal.Row.{Row}
 use Rattle.rules.specs.Numbers.{tooShort}
@@ -18,13 +19,8 @@ use Rattle.rules.specs.Paper.{refusalOnPaper}
 use Rattle.rules.specs.Place.{bytes}
 use Rattle.rules.specs.Walk.{Entry}
 use Rattle.slicer.specs.declared.packet.Entry.{Entry as Given}
-use Rattle.slicer.specs.declared.packet.Outcome.the-variants as O
-use Rattle.slicer.specs.declared.packet.SlicedPacket.{SlicedPacket}
-use Rattle.slicer.specs.declared.list.HeaderAnswer.the-variants as H
-use Rattle.slicer.specs.declared.list.CountAnswer.the-variants as C
 use Rattle.chain.specs.Broken.{FirstFailed, this, later, Broken, fails, late-hop, more}
-use Rattle.chain.specs.Refused.{Breaks, reply→broken, header→broken, count→broken}
-use Rattle.chain.specs.Answers.{Sliced, HeaderIs, CountIs}
+use Rattle.chain.specs.Refused.{RefusedForAReason}
 
 -- refusal 1 is a failed length test and no other: a test that is none carries another number
 abbrev NotShort : Failure → Type 0
@@ -79,6 +75,7 @@ asks (short layer a b bound) at room h required have source n v = omega (arith, 
   where
     first : {x y z x′ y′ z′ : ℕ} → _≡_ {A = List ℕ} (x ∷ y ∷ z ∷ []) (x′ ∷ y′ ∷ z′ ∷ []) → x ≡ x′
     first e = cc
+
     second : {x y z x′ y′ z′ : ℕ} → _≡_ {A = List ℕ} (x ∷ y ∷ z ∷ []) (x′ ∷ y′ ∷ z′ ∷ []) → y ≡ y′
     second e = cc
 asks (other m layer value) at room h required have source n v = absurd (h n)
@@ -89,18 +86,10 @@ row-asks-for-more {s} (fails {p} {f} b) = asks f (p .at) (p .room .source) (soun
 row-asks-for-more (late-hop h e) = λ required have source n v. absurd (omega arith)
 row-asks-for-more (more h l b) = row-asks-for-more b
 
--- ---- short-asks-for-more: for the reply, header k and the count
+-- ---- for every answer that is refused for a reason: the reply, header k and the count (Refused.antt)
 
-module _ (entry : Given) (s : List ℕ) (offset required have : ℕ) (layer : Layer) (source : Source) where
-  asked : {hs : List Entry} → Breaks entry s hs (refusalOnPaper (R.TooShort offset required have layer source)) → have < required
-  unfolding Asks
-  asked b = row-asks-for-more b required have _ refl refl
-
-  pub reply-asks-for-more : (a : SlicedPacket) → Sliced entry s a → a .outcome ≡ O.Refused (R.TooShort offset required have layer source) → have < required
-  reply-asks-for-more a e o = asked (reply→broken entry s (R.TooShort offset required have layer source) a e o .1)
-
-  pub header-asks-for-more : (k : ℕ) → HeaderIs entry s k (H.Refused (R.TooShort offset required have layer source)) → have < required
-  header-asks-for-more k e = asked (header→broken entry s (R.TooShort offset required have layer source) k e .1)
-
-  pub count-asks-for-more : CountIs entry s (C.Refused (R.TooShort offset required have layer source)) → have < required
-  count-asks-for-more e = asked (count→broken entry s (R.TooShort offset required have layer source) e .1)
+pub short-asks-for-more : (entry : Given) (s : List ℕ) (Is : Refusal → Type 0) → RefusedForAReason entry s Is
+    → (offset required have : ℕ) (layer : Layer) (source : Source) → Is (R.TooShort offset required have layer source) → have < required
+unfolding Asks
+short-asks-for-more entry s Is a offset required have layer source i =
+    row-asks-for-more (a .breaks (R.TooShort offset required have layer source) i .1) required have _ refl refl

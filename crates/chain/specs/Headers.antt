@@ -1,4 +1,5 @@
--- "asking for header 0, 1, 2 and so on gives every header of it, once, in order, and then no more"; the count is its length.
+-- "asking for header 0, 1, 2 and so on gives every header of it, once, in order, and then no more": headers-in-order, each-once;
+-- "a made-up header count (it is the chain's length)": count-is-length. For each entry.
 use Prim.Native.Nat.{ℕ, zero, suc, _≤_, _<_, _+_, _-_}
 use mathlib.Core.Path.{_≡_, refl, sym, ap, _∙_}
 use mathlib.Core.List.{List, [], _∷_, map}
@@ -27,6 +28,18 @@ pub data At : List Entry → ℕ → Entry → Type 0 where
   here : {e : Entry} {hs : List Entry} → At (e ∷ hs) 0 e
   later : {e f : Entry} {hs : List Entry} {k : ℕ} → At hs k f → At (e ∷ hs) (suc k) f
 
+-- what is said of an answer r for header k: number k of the chain, with its kind, offset and length; behind the last one no more;
+-- and a header is answered only from a chain, at its number
+pub record HeadersInOrder (entry : Given) (s : List ℕ) (k : ℕ) (r : HeaderAnswer) : Type 0 where
+  pub in-order : (hs : List Entry) (x : Stopped) (e : Entry) → HasChain entry s hs x → At hs k e → r ≡ H.Is (header e)
+  pub then-no-more : (hs : List Entry) (x : Stopped) → HasChain entry s hs x → length hs ≤ k → r ≡ H.NoMore
+  pub from-chain : (h : Header) → r ≡ H.Is h → (hs : List Entry) × (x : Stopped) × (e : Entry) × HasChain entry s hs x × At hs k e × (header e ≡ h)
+
+-- what is said of a count r: the chain's length, and only that of a chain
+pub record CountIsLength (entry : Given) (s : List ℕ) (r : CountAnswer) : Type 0 where
+  pub is-length : (hs : List Entry) (x : Stopped) → HasChain entry s hs x → r ≡ C.Is (length hs)
+  pub from-chain : (n : ℕ) → r ≡ C.Is n → (hs : List Entry) × (x : Stopped) × HasChain entry s hs x × (length hs ≡ n)
+
 -- ---- header 0, 1, 2 and so on
 
 at-nth : {hs : List Entry} {k : ℕ} {e : Entry} → At hs k e → nth (map header hs) k ≡ is (header e)
@@ -52,24 +65,13 @@ is-count : (a : CountAnswer) {n : ℕ} → countOnPaper a ≡ is n → a ≡ C.I
 is-count (C.Is n) e = cc
 is-count (C.Refused r) e = cc
 
--- a frame's chain has the headers hs and the stop x
-module _ (entry : Given) (s : List ℕ) {hs : List Entry} {x : Stopped} (c : HasChain entry s hs x) where
-  listed-as : (k : ℕ) (r : HeaderAnswer) → HeaderIs entry s k r → headerOnPaper r ≡ nth (map header hs) k
-  unfolding headerOf
-  listed-as k r e = e ∙ rw (chain→slices (entryKind entry) s c)
+listed-as : (entry : Given) (s : List ℕ) {hs : List Entry} {x : Stopped} (k : ℕ) (r : HeaderAnswer) → HasChain entry s hs x → HeaderIs entry s k r → headerOnPaper r ≡ nth (map header hs) k
+unfolding headerOf
+listed-as entry s k r c e = e ∙ rw (chain→slices (entryKind entry) s c)
 
-  -- header k is number k of the chain: its kind, offset and length
-  pub header-in-order : (k : ℕ) {e : Entry} (r : HeaderAnswer) → At hs k e → HeaderIs entry s k r → r ≡ H.Is (header e)
-  header-in-order k r a e = is-it r (listed-as k r e ∙ at-nth a)
-
-  -- and then no more
-  pub then-no-more : (k : ℕ) (r : HeaderAnswer) → length hs ≤ k → HeaderIs entry s k r → r ≡ H.NoMore
-  then-no-more k r h e = is-no-more r (listed-as k r e ∙ past-end hs k h)
-
-  -- the count is the chain's length
-  pub count-is-length : (r : CountAnswer) → CountIs entry s r → r ≡ C.Is (length hs)
-  unfolding countOf
-  count-is-length r e = is-count r (e ∙ rw (chain→slices (entryKind entry) s c))
+counted-as : (entry : Given) (s : List ℕ) {hs : List Entry} {x : Stopped} (r : CountAnswer) → HasChain entry s hs x → CountIs entry s r → countOnPaper r ≡ is (length hs)
+unfolding countOf
+counted-as entry s r c e = e ∙ rw (chain→slices (entryKind entry) s c)
 
 -- every number below the length has its header
 pub every-header : (hs : List Entry) (k : ℕ) → k < length hs → (e : Entry) × At hs k e
@@ -101,21 +103,36 @@ at-of [] k q = let w : _≡_ {A = ℕ} 0 1 = cc in absurd (omega arith)
 at-of (e ∷ hs) zero q = (e, here, cc)
 at-of (e ∷ hs) (suc k) q = let z = at-of hs k q in (z .0, later (z .1), z .2)
 
--- a header that is answered stands in the frame's chain at that number
-pub header→chain : (entry : Given) (s : List ℕ) (k : ℕ) {h : Header} → HeaderIs entry s k (H.Is h)
+header→chain : (entry : Given) (s : List ℕ) (k : ℕ) (r : HeaderAnswer) (h : Header) → HeaderIs entry s k r → r ≡ H.Is h
     → (hs : List Entry) × (x : Stopped) × (e : Entry) × HasChain entry s hs x × At hs k e × (header e ≡ h)
 unfolding headerOf
-header→chain entry s k {h} q = go (walked (entryKind entry) s) q
+header→chain entry s k r h q o = go (walked (entryKind entry) s) (sym (ap headerOnPaper o) ∙ q)
   where
     go : {t : Trace Entry} → Walked (entryKind entry) s t → is h ≡ headerOf t k → (hs : List Entry) × (x : Stopped) × (e : Entry) × HasChain entry s hs x × At hs k e × (header e ≡ h)
     go (whole-walk {hs} {x} c) y = let z = at-of hs k (sym y) in (hs, x, z .0, c, z .1, z .2)
     go (broken-walk b) y = let w : _≡_ {A = ℕ} 0 1 = cc in absurd (omega arith)
 
--- a frame that is counted has a chain of that length
-pub count→chain : (entry : Given) (s : List ℕ) {n : ℕ} → CountIs entry s (C.Is n) → (hs : List Entry) × (x : Stopped) × HasChain entry s hs x × (length hs ≡ n)
+count→chain : (entry : Given) (s : List ℕ) (r : CountAnswer) (n : ℕ) → CountIs entry s r → r ≡ C.Is n → (hs : List Entry) × (x : Stopped) × HasChain entry s hs x × (length hs ≡ n)
 unfolding countOf
-count→chain entry s {n} q = go (walked (entryKind entry) s) q
+count→chain entry s r n q o = go (walked (entryKind entry) s) (sym (ap countOnPaper o) ∙ q)
   where
     go : {t : Trace Entry} → Walked (entryKind entry) s t → is n ≡ countOf t → (hs : List Entry) × (x : Stopped) × HasChain entry s hs x × (length hs ≡ n)
     go (whole-walk {hs} {x} c) y = (hs, x, c, cc)
     go (broken-walk b) y = let w : _≡_ {A = ℕ} 0 1 = cc in absurd (omega arith)
+
+-- ---- every answer of `header` and of `count` is so
+
+pub headers-in-order : (entry : Given) (s : List ℕ) (k : ℕ) (r : HeaderAnswer) → HeaderIs entry s k r → HeadersInOrder entry s k r
+headers-in-order entry s k r q =
+    record {
+      in-order = λ hs x e c a. is-it r (listed-as entry s k r c q ∙ at-nth a);
+      then-no-more = λ hs x c h. is-no-more r (listed-as entry s k r c q ∙ past-end hs k h);
+      from-chain = λ h o. header→chain entry s k r h q o;
+    }
+
+pub count-is-length : (entry : Given) (s : List ℕ) (r : CountAnswer) → CountIs entry s r → CountIsLength entry s r
+count-is-length entry s r q =
+    record {
+      is-length = λ hs x c. is-count r (counted-as entry s r c q);
+      from-chain = λ n o. count→chain entry s r n q o;
+    }

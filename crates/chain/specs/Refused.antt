@@ -1,5 +1,5 @@
 -- "the refusal is that of the first test failed in walk order, and no refusal is given otherwise"; "Header k of a refused frame is
--- that refusal for every k, and so is its count".
+-- that refusal for every k, and so is its count": refused-for-a-reason, for the reply, header k and the count, for each entry.
 use Prim.Native.Nat.{ℕ, zero, suc}
 use mathlib.Core.Path.{_≡_, refl, sym, ap, _∙_, subst}
 use mathlib.Core.List.{List, [], _∷_, map}
@@ -28,6 +28,12 @@ use Rattle.chain.specs.Answers.{Sliced, HeaderIs, CountIs}
 abbrev pub Breaks : Given → List ℕ → List Entry → Row → Type 0
 Breaks entry s hs r = BrokenOf (entryKind entry) s hs r
 
+-- what is said of an answer that may be a refusal, where `Is q` says that it is the refusal q: it is refused where the walk breaks, with
+-- that row, and nowhere else
+pub record RefusedForAReason (entry : Given) (s : List ℕ) (Is : Refusal → Type 0) : Type 0 where
+  pub refuses : (hs : List Entry) (r : Row) → Breaks entry s hs r → (q : Refusal) × Is q × (refusalOnPaper q ≡ r)
+  pub breaks : (q : Refusal) → Is q → (hs : List Entry) × Breaks entry s hs (refusalOnPaper q)
+
 is-refused : (o : Outcome) {r : Row} → outcomeOnPaper o ≡ P.refused r → (q : Refusal) × (o ≡ O.Refused q) × (refusalOnPaper q ≡ r)
 is-refused (O.Accepted e) h = let z : _≡_ {A = ℕ} 0 1 = cc in absurd (omega arith)
 is-refused (O.Refused q) h = (q, refl, cc)
@@ -49,44 +55,62 @@ module _ (entry : Given) (s : List ℕ) {hs : List Entry} {r : Row} (b : Breaks 
   unfolding replyOf gathered
   broken→reply a e = e ∙ rw (broken→slices (entryKind entry) s b)
 
-  pub reply-refused : (a : SlicedPacket) → Sliced entry s a → (q : Refusal) × (a .outcome ≡ O.Refused q) × (refusalOnPaper q ≡ r)
+  reply-refused : (a : SlicedPacket) → Sliced entry s a → (q : Refusal) × (a .outcome ≡ O.Refused q) × (refusalOnPaper q ≡ r)
   reply-refused a e = is-refused (a .outcome) (ap (λ (p : Reply). p .ended) (broken→reply a e))
 
-  pub header-refused : (k : ℕ) (a : HeaderAnswer) → HeaderIs entry s k a → (q : Refusal) × (a ≡ H.Refused q) × (refusalOnPaper q ≡ r)
+  header-refused : (k : ℕ) (a : HeaderAnswer) → HeaderIs entry s k a → (q : Refusal) × (a ≡ H.Refused q) × (refusalOnPaper q ≡ r)
   unfolding headerOf
   header-refused k a e = is-header-refused a (e ∙ rw (broken→slices (entryKind entry) s b))
 
-  pub count-refused : (a : CountAnswer) → CountIs entry s a → (q : Refusal) × (a ≡ C.Refused q) × (refusalOnPaper q ≡ r)
+  count-refused : (a : CountAnswer) → CountIs entry s a → (q : Refusal) × (a ≡ C.Refused q) × (refusalOnPaper q ≡ r)
   unfolding countOf
   count-refused a e = is-count-refused a (e ∙ rw (broken→slices (entryKind entry) s b))
 
--- ---- refused-for-a-reason: a refusal is given only where the walk breaks, at that row
+-- ---- a refusal is given only where the walk breaks, at that row
 
 module _ (entry : Given) (s : List ℕ) (q : Refusal) where
-  pub reply→broken : (a : SlicedPacket) → Sliced entry s a → a .outcome ≡ O.Refused q → (hs : List Entry) × Breaks entry s hs (refusalOnPaper q)
-  unfolding replyOf gathered
-  reply→broken a e o = go (walked (entryKind entry) s) (sym (ap outcomeOnPaper o) ∙ ap (λ (p : Reply). p .ended) e)
-    where
-      go : {t : Trace Entry} → Walked (entryKind entry) s t → P.refused (refusalOnPaper q) ≡ gathered sliceWay nothing t .ended → (hs : List Entry) × Breaks entry s hs (refusalOnPaper q)
-      go (whole-walk c) y = let w : _≡_ {A = ℕ} 0 1 = cc in absurd (omega arith)
-      go (broken-walk {hs} {r} b) y = let z : r ≡ refusalOnPaper q = cc in (hs, subst (Breaks entry s hs) z b)
+  nth-not : (hs : List Entry) (k : ℕ) {r : Row} → refusal r ≡ nth (map header hs) k → ⊥
+  nth-not [] k y = let w : _≡_ {A = ℕ} 0 1 = cc in omega arith
+  nth-not (h ∷ hs) zero y = let w : _≡_ {A = ℕ} 0 1 = cc in omega arith
+  nth-not (h ∷ hs) (suc k) y = nth-not hs k y
 
-  pub header→broken : (k : ℕ) → HeaderIs entry s k (H.Refused q) → (hs : List Entry) × Breaks entry s hs (refusalOnPaper q)
+  reply→broken : {t : Trace Entry} → Walked (entryKind entry) s t → P.refused (refusalOnPaper q) ≡ gathered sliceWay nothing t .ended
+      → (hs : List Entry) × Breaks entry s hs (refusalOnPaper q)
+  unfolding gathered
+  reply→broken (whole-walk c) y = let w : _≡_ {A = ℕ} 0 1 = cc in absurd (omega arith)
+  reply→broken (broken-walk {hs} {r} b) y = let z : r ≡ refusalOnPaper q = cc in (hs, subst (Breaks entry s hs) z b)
+
+  header→broken : {t : Trace Entry} (k : ℕ) → Walked (entryKind entry) s t → refusal (refusalOnPaper q) ≡ headerOf t k
+      → (hs : List Entry) × Breaks entry s hs (refusalOnPaper q)
   unfolding headerOf
-  header→broken k e = go (walked (entryKind entry) s) e
-    where
-      nth-not : (hs : List Entry) (k : ℕ) {r : Row} → refusal r ≡ nth (map header hs) k → ⊥
-      nth-not [] k y = let w : _≡_ {A = ℕ} 0 1 = cc in omega arith
-      nth-not (h ∷ hs) zero y = let w : _≡_ {A = ℕ} 0 1 = cc in omega arith
-      nth-not (h ∷ hs) (suc k) y = nth-not hs k y
-      go : {t : Trace Entry} → Walked (entryKind entry) s t → refusal (refusalOnPaper q) ≡ headerOf t k → (hs : List Entry) × Breaks entry s hs (refusalOnPaper q)
-      go (whole-walk {hs} c) y = absurd (nth-not hs k y)
-      go (broken-walk {hs} {r} b) y = let z : r ≡ refusalOnPaper q = cc in (hs, subst (Breaks entry s hs) z b)
+  header→broken k (whole-walk {hs} c) y = absurd (nth-not hs k y)
+  header→broken k (broken-walk {hs} {r} b) y = let z : r ≡ refusalOnPaper q = cc in (hs, subst (Breaks entry s hs) z b)
 
-  pub count→broken : CountIs entry s (C.Refused q) → (hs : List Entry) × Breaks entry s hs (refusalOnPaper q)
+  count→broken : {t : Trace Entry} → Walked (entryKind entry) s t → refusal (refusalOnPaper q) ≡ countOf t → (hs : List Entry) × Breaks entry s hs (refusalOnPaper q)
   unfolding countOf
-  count→broken e = go (walked (entryKind entry) s) e
-    where
-      go : {t : Trace Entry} → Walked (entryKind entry) s t → refusal (refusalOnPaper q) ≡ countOf t → (hs : List Entry) × Breaks entry s hs (refusalOnPaper q)
-      go (whole-walk c) y = let w : _≡_ {A = ℕ} 0 1 = cc in absurd (omega arith)
-      go (broken-walk {hs} {r} b) y = let z : r ≡ refusalOnPaper q = cc in (hs, subst (Breaks entry s hs) z b)
+  count→broken (whole-walk c) y = let w : _≡_ {A = ℕ} 0 1 = cc in absurd (omega arith)
+  count→broken (broken-walk {hs} {r} b) y = let z : r ≡ refusalOnPaper q = cc in (hs, subst (Breaks entry s hs) z b)
+
+-- ---- every answer of `slice`, `header` and `count` is so
+
+pub reply-refused-for-a-reason : (entry : Given) (s : List ℕ) (a : SlicedPacket) → Sliced entry s a → RefusedForAReason entry s (λ q. a .outcome ≡ O.Refused q)
+unfolding replyOf
+reply-refused-for-a-reason entry s a e =
+    record {
+      refuses = λ hs r b. reply-refused entry s b a e;
+      breaks = λ q o. reply→broken entry s q (walked (entryKind entry) s) (sym (ap outcomeOnPaper o) ∙ ap (λ (p : Reply). p .ended) e);
+    }
+
+pub header-refused-for-a-reason : (entry : Given) (s : List ℕ) (k : ℕ) (a : HeaderAnswer) → HeaderIs entry s k a → RefusedForAReason entry s (λ q. a ≡ H.Refused q)
+header-refused-for-a-reason entry s k a e =
+    record {
+      refuses = λ hs r b. header-refused entry s b k a e;
+      breaks = λ q o. header→broken entry s q k (walked (entryKind entry) s) (sym (ap headerOnPaper o) ∙ e);
+    }
+
+pub count-refused-for-a-reason : (entry : Given) (s : List ℕ) (a : CountAnswer) → CountIs entry s a → RefusedForAReason entry s (λ q. a ≡ C.Refused q)
+count-refused-for-a-reason entry s a e =
+    record {
+      refuses = λ hs r b. count-refused entry s b a e;
+      breaks = λ q o. count→broken entry s q (walked (entryKind entry) s) (sym (ap countOnPaper o) ∙ e);
+    }

@@ -93,8 +93,10 @@ at-ip s t p c =
   where
     follow-of : Found → Follow
     follow-of x = x .follow
+
     end-of : Room → ℕ
     end-of r = r .end
+
     unread : {x y : Found} → reads x ≡ reads y → x ≡ y
     unread e = cc
 

@@ -81,7 +81,7 @@ next-leads s p e = follows-next (follows s p) e
 -- the place, the stop and the refusal are settled by the header
 pub one-next : {s : List ℕ} {p q : Place} → Leads s p q → foundAt s p .follow ≡ next q
 unfolding followOf follow
-one-next {s} {p} {q} l = 
+one-next {s} {p} {q} l =
     let a = sym (l .begins) in
     let b = sym (l .room) in
     rw (l .names) (ap next (λ i. record { at = a i; room = b i; kind = q .kind }))
@@ -153,7 +153,6 @@ walk-means (suc n) s p = step-means s p (walk n s) (walk-means n s) (read s p) r
 pub trace-means : (s : List ℕ) (p : Place) {t : Trace Entry} → trace s p ≡ t → Means s p t
 unfolding trace
 trace-means s p e = subst (Means s p) e (walk-means (suc (p .room .end - p .at)) s p)
-
 
 -- any frame has a chain or a broken one: "Any bytes get an answer."
 pub data Walked (k : Kind) (s : List ℕ) : Trace Entry → Type 0 where

@@ -1,25 +1,41 @@
-// Demand 3 as theorems: see specs. The functions here only hand an answer on, and promise of it what the theorems assume
-// (specs/Answers.antt): if a contract of the slicer changed, this crate would not check any more.
-ghost use Rattle.chain.specs.Answers.{Sliced, HeaderIs, CountIs};
+// Demand 3, said of the answers that code gives: each function hands on an answer of the slicer, and its contract is the theorem.
+// The theorems themselves, with all that they assume, stand in specs.
+ghost use mathlib.Core.Path.{_≡_};
+ghost use Rattle.rules.specs.declared.refusal.Refusal.{Refusal};
+ghost use Rattle.slicer.specs.declared.packet.Outcome.the-variants as O;
+ghost use Rattle.slicer.specs.declared.list.HeaderAnswer.the-variants as HA;
+ghost use Rattle.slicer.specs.declared.list.CountAnswer.the-variants as CA;
+ghost use Rattle.chain.specs.Accepted.{AcceptedIffChain};
+ghost use Rattle.chain.specs.Headers.{HeadersInOrder, CountIsLength};
+ghost use Rattle.chain.specs.Refused.{RefusedForAReason};
 use slicer::CountAnswer;
 use slicer::Entry;
 use slicer::HeaderAnswer;
 use slicer::SlicedPacket;
 
+// Accepted exactly when there is a chain; refused exactly where the walk breaks.
 pub fn slice(s: &[u8], entry: Entry) -> SlicedPacket
-    ensures { λ r. ⌜ Sliced entry (now (s .entry)) r ⌝ }
+    ensures accepted { λ r. ⌜ AcceptedIffChain entry (now (s .entry)) r ⌝ }
+    ensures refused { λ r. ⌜ RefusedForAReason entry (now (s .entry)) (λ (q : Refusal). r .outcome ≡ O.Refused q) ⌝ }
 {
-    slicer::slice(s, entry)
+    let reply = slicer::slice(s, entry);
+    reply
 }
 
+// Every header of the chain, once, in order, and then no more.
 pub fn header(s: &[u8], entry: Entry, k: usize) -> HeaderAnswer
-    ensures { λ r. ⌜ HeaderIs entry (now (s .entry)) k r ⌝ }
+    ensures listed { λ r. ⌜ HeadersInOrder entry (now (s .entry)) k r ⌝ }
+    ensures refused { λ r. ⌜ RefusedForAReason entry (now (s .entry)) (λ (q : Refusal). r ≡ HA.Refused q) ⌝ }
 {
-    slicer::header(s, entry, k)
+    let listed = slicer::header(s, entry, k);
+    listed
 }
 
+// The chain's length.
 pub fn count(s: &[u8], entry: Entry) -> CountAnswer
-    ensures { λ r. ⌜ CountIs entry (now (s .entry)) r ⌝ }
+    ensures counted { λ r. ⌜ CountIsLength entry (now (s .entry)) r ⌝ }
+    ensures refused { λ r. ⌜ RefusedForAReason entry (now (s .entry)) (λ (q : Refusal). r ≡ CA.Refused q) ⌝ }
 {
-    slicer::count(s, entry)
+    let counted = slicer::count(s, entry);
+    counted
 }
