@@ -18,3 +18,4 @@ pub mod Padding
 pub mod Twins
 pub mod DeclaredLength
 pub mod Frames
+pub mod Idle

@@ -1,0 +1,92 @@
+-- Document 01: "These idle versions have to be caught". Each is ruled out by demand 3's statement itself, shown on a frame or two.
+use Prim.Native.Nat.{ℕ, _+_}
+use mathlib.Core.Path.{_≡_, refl, sym, ap, _∙_}
+use mathlib.Core.List.{List, [], _∷_, _++_}
+use native.Mathlib.Omega.{arith}
+use lib.ListN.{length, replicate}
+use Rattle.rules.specs.declared.kind.Kind.the-variants.{Ethernet2}
+use Rattle.rules.specs.declared.place.Header.{Header}
+use Rattle.rules.specs.declared.refusal.Refusal.{Refusal}
+use Rattle.rules.specs.Test.{judge}
+use Rattle.rules.specs.Rules.{isTag, link, lengthOf, marksOf, namesOf, turnOf, payloadOf, seenBy, testsBy}
+use Rattle.rules.specs.Place.{Stopped, leaves, follow, followOf, bytes, outcome, read, start}
+use Rattle.rules.specs.Walk.{Trace, accepted, refused, Entry, walk, trace}
+use Rattle.slicer.specs.declared.packet.Entry.the-variants as E
+use Rattle.slicer.specs.declared.packet.Ending.{Ending}
+use Rattle.slicer.specs.declared.packet.Outcome.{Outcome}
+use Rattle.slicer.specs.declared.packet.Outcome.the-variants as O
+use Rattle.slicer.specs.declared.packet.SlicedPacket.{SlicedPacket}
+use Rattle.slicer.specs.declared.list.HeaderAnswer.{HeaderAnswer}
+use Rattle.slicer.specs.declared.list.HeaderAnswer.the-variants as H
+use Rattle.slicer.specs.declared.list.CountAnswer.{CountAnswer}
+use Rattle.slicer.specs.declared.list.CountAnswer.the-variants as C
+use Rattle.chain.specs.Chain.{ChainOf}
+use Rattle.chain.specs.Walked.{Means, trace-means}
+use Rattle.chain.specs.OneChain.{not-both}
+use Rattle.chain.specs.Accepted.{AcceptedIffChain}
+use Rattle.chain.specs.Headers.{At, here, later, HeadersInOrder, CountIsLength}
+
+-- ---- three frames: 13 bytes; 14 bytes of type 0; one tag of type 0
+
+zeros : ℕ → List ℕ
+zeros n = replicate n 0
+
+abbrev tagged : List ℕ
+tagged = zeros 12 ++ (0x81 ∷ zeros 5)
+
+means : (s : List ℕ) → Means s (start Ethernet2 s) (trace s (start Ethernet2 s))
+means s = trace-means s (start Ethernet2 s) refl
+
+no-chain : {hs : List Entry} {x : Stopped} → ChainOf Ethernet2 (zeros 13) hs x → ⊥
+unfolding zeros trace walk start read outcome bytes seenBy judge testsBy leaves lengthOf marksOf namesOf turnOf payloadOf follow followOf link isTag
+no-chain c = not-both c (means (zeros 13))
+
+one-header : (x : Stopped) × (e : Entry) × ChainOf Ethernet2 (zeros 14) (e ∷ []) x
+unfolding zeros trace walk start read outcome bytes seenBy judge testsBy leaves lengthOf marksOf namesOf turnOf payloadOf follow followOf link isTag
+one-header = (_, _, means (zeros 14))
+
+two-headers : (x : Stopped) × (e f : Entry) × ChainOf Ethernet2 tagged (e ∷ f ∷ []) x
+unfolding zeros trace walk start read outcome bytes seenBy judge testsBy leaves lengthOf marksOf namesOf turnOf payloadOf follow followOf link isTag
+two-headers = (_, _, _, means tagged)
+
+-- ---- "one that refuses everything (demand 3: a frame with a chain is accepted)"
+
+pub refuses-everything : (slice : List ℕ → SlicedPacket) → ((s : List ℕ) → (q : Refusal) × (slice s .outcome ≡ O.Refused q)) → ((s : List ℕ) → AcceptedIffChain E.Ethernet s (slice s)) → ⊥
+refuses-everything slice idle true-of =
+    let a = true-of (zeros 14) .accepts _ _ (one-header .2) in
+    differ (slice (zeros 14) .outcome) (a .1) (idle (zeros 14) .1)
+  where
+    differ : (o : Outcome) {e : Ending} {q : Refusal} → o ≡ O.Accepted e → o ≡ O.Refused q → ⊥
+    differ o a b = let z : _≡_ {A = ℕ} 0 1 = cc in omega arith
+
+-- ---- "one fixed reply .. (demand 3's list, over demand 2's header rules)": accepted once, it would accept a frame with no chain
+
+pub one-fixed-reply : (r : SlicedPacket) → ((s : List ℕ) → AcceptedIffChain E.Ethernet s r) → ⊥
+one-fixed-reply r true-of =
+    let a = true-of (zeros 14) .accepts _ _ (one-header .2) in
+    no-chain (true-of (zeros 13) .chained (a .0) (a .1) .1)
+
+-- ---- "one that lists no header"
+
+pub lists-no-header : (header : List ℕ → ℕ → HeaderAnswer) → ((s : List ℕ) (k : ℕ) (h : Header) → header s k ≡ H.Is h → ⊥) → ((s : List ℕ) (k : ℕ) → HeadersInOrder E.Ethernet s k (header s k)) → ⊥
+lists-no-header header idle true-of = idle (zeros 14) 0 _ (true-of (zeros 14) 0 .in-order _ _ _ (one-header .2) here)
+
+-- ---- "one that hands out the whole list for header 0 and "no more" after (demand 3: each once, at its place)"
+
+pub whole-list-for-header-0 : (header : List ℕ → ℕ → HeaderAnswer) → ((s : List ℕ) → header s 1 ≡ H.NoMore) → ((s : List ℕ) (k : ℕ) → HeadersInOrder E.Ethernet s k (header s k)) → ⊥
+whole-list-for-header-0 header idle true-of =
+    differ (header tagged 1) (true-of tagged 1 .in-order _ _ _ (two-headers .3) (later here)) (idle tagged)
+  where
+    differ : (a : HeaderAnswer) {h : Header} → a ≡ H.Is h → a ≡ H.NoMore → ⊥
+    differ a e f = let z : _≡_ {A = ℕ} 0 1 = cc in omega arith
+
+-- ---- "a made-up header count (it is the chain's length)": one that does not go by the frame
+
+pub made-up-count : (n : ℕ) → ((s : List ℕ) → CountIsLength E.Ethernet s (C.Is n)) → ⊥
+made-up-count n true-of =
+    let a = is-it (true-of (zeros 14) .is-length _ _ (one-header .2)) in
+    let b = is-it (true-of tagged .is-length _ _ (two-headers .3)) in
+    omega (arith, a, b)
+  where
+    is-it : {m k : ℕ} → C.Is m ≡ C.Is k → m ≡ k
+    is-it e = cc
