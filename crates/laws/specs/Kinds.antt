@@ -62,18 +62,20 @@ nested4 g at p h =
     let z = set-end (number 2 g 2) at (p .end) (g 0 % 16 * 4) (omega arith) (omega arith) (omega arith) (λ n. omega arith) in
     record { holds = z .0; inside = z .1 }
 
+-- what an IPv6 header of payload length n declares: no more than is there, and its own 40 bytes at least or nothing
+pub declared6 : (n have : ℕ) → 40 + n ≤ have → (pick (eqb n 0) 0 (40 + n) ≤ have) × ((pick (eqb n 0) 0 (40 + n) ≡ 0 → ⊥) → 40 ≤ pick (eqb n 0) 0 (40 + n))
+declared6 n have h = go (eqb n 0)
+  where
+    go : (b : Bool) → (pick b 0 (40 + n) ≤ have) × ((pick b 0 (40 + n) ≡ 0 → ⊥) → 40 ≤ pick b 0 (40 + n))
+    go true = (omega arith, λ q. absurd (q refl))
+    go false = (h, λ q. omega arith)
+
 nested6 : (g : ℕ → ℕ) (at : ℕ) (p : Room) → Passes Ipv6 g at p → Nested Ipv6 g at p
 unfolding testsBy lengthOf leaves declaredOf
 nested6 g at p h =
-    let z = set-end (declaredOf Ipv6 g) at (p .end) 40 (omega arith) (omega arith) (declared .0) (declared .1) in
+    let d = declared6 (number 2 g 4) (p .end - at) (omega arith) in
+    let z = set-end (declaredOf Ipv6 g) at (p .end) 40 (omega arith) (omega arith) (d .0) (d .1) in
     record { holds = z .0; inside = z .1 }
-  where
-    declared : (declaredOf Ipv6 g ≤ p .end - at) × ((declaredOf Ipv6 g ≡ 0 → ⊥) → 40 ≤ declaredOf Ipv6 g)
-    declared = go (eqb (number 2 g 4) 0) refl
-      where
-        go : (t : Bool) → eqb (number 2 g 4) 0 ≡ t → (declaredOf Ipv6 g ≤ p .end - at) × ((declaredOf Ipv6 g ≡ 0 → ⊥) → 40 ≤ declaredOf Ipv6 g)
-        go true q = rw q (omega arith, λ n. absurd (n refl))
-        go false q = rw q (omega arith, λ n. omega arith)
 
 pub nested : (k : Kind) (g : ℕ → ℕ) (at : ℕ) (p : Room) → Passes k g at p → Nested k g at p
 unfolding leaves

@@ -4,8 +4,10 @@ use mathlib.Core.List.{List}
 use mathlib.Core.Bool.{Bool, true, false, _||_, not}
 use lib.ListN.{length}
 use lib.Dec.{eqb}
+use Rattle.rules.specs.declared.entry.Entry.{Entry}
+use Rattle.rules.specs.declared.entry.Entry.the-variants as E
 use Rattle.rules.specs.declared.kind.Kind.{Kind}
-use Rattle.rules.specs.declared.kind.Kind.the-variants.{Vlan, HopByHop}
+use Rattle.rules.specs.declared.kind.Kind.the-variants.{Ethernet2, Vlan, Ipv4, Ipv6, HopByHop}
 use Rattle.rules.specs.declared.kind.Layer.the-variants.{Of}
 use Rattle.rules.specs.declared.kind.RoomSource.{RoomSource}
 use Rattle.rules.specs.declared.kind.RoomSource.the-variants as S
@@ -13,9 +15,10 @@ use Rattle.rules.specs.declared.place.Number.{Number}
 use Rattle.rules.specs.declared.place.Place.{Place}
 use Rattle.rules.specs.declared.place.Room.{Room}
 use Rattle.rules.specs.declared.refusal.Row.{Row}
+use Rattle.rules.specs.declared.stop.Ending.{Ending}
 use Rattle.rules.specs.Bytes.{part}
 use Rattle.rules.specs.Numbers.{hopByHopNotAtStart}
-use Rattle.rules.specs.Paper.{kindNumber}
+use Rattle.rules.specs.Paper.{kindNumber, stopNumber}
 use Rattle.rules.specs.Test.{pick, Outcome, whole, failed, judge, placed, other}
 use Rattle.rules.specs.Rules.{Turn, opens, stops, late, rule, seen, tests, lengthOf, declaredOf, marksOf, namesOf, turnOf, payloadOf}
 
@@ -63,6 +66,10 @@ pub record Stopped : Type 0 where
   pub number : Number
   pub at : ℕ
   pub len : ℕ
+
+-- the code's ending on paper
+abbrev pub endingOnPaper : Ending → Stopped
+endingOnPaper e = record { why = stopNumber (e .stop); number = e .number; at = e .payload .at; len = e .payload .len }
 
 pub data Follow : Type 0 where
   next : Place → Follow
@@ -114,6 +121,14 @@ outcome s p =
 
 unfoldable pub read : List ℕ → Place → Reading
 read s p = settle (outcome s p) (p .at) (p .room .source)
+
+-- ---- where a walk begins
+
+-- the kind of the first header, by the entry
+abbrev pub entryKind : Entry → Kind
+entryKind E.Ethernet = Ethernet2
+entryKind E.Ipv4 = Ipv4
+entryKind E.Ipv6 = Ipv6
 
 -- the first place of a frame whose first header is of kind k
 unfoldable pub start : Kind → List ℕ → Place

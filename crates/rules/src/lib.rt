@@ -1,6 +1,7 @@
 // What every crate shares: the types of the answers, the numbers of document 01, bytes read as numbers; and
 // document 01's rules, written down once as definitions (specs/). Each function here promises its definition.
 pub mod bytes;
+mod entry;
 pub mod ether_type;
 pub mod ip_number;
 mod kind;
@@ -9,6 +10,7 @@ mod place;
 mod refusal;
 mod stop;
 
+pub use entry::Entry;
 pub use ether_type::EtherType;
 pub use ip_number::IpNumber;
 pub use kind::Kind;
@@ -18,9 +20,11 @@ pub use kind::Source;
 pub use place::Header;
 pub use place::Number;
 pub use place::Place;
+pub use place::Range;
 pub use place::Room;
 pub use refusal::Bound;
 pub use refusal::Fault;
 pub use refusal::Refusal;
 pub use refusal::Row;
+pub use stop::Ending;
 pub use stop::Stop;

@@ -36,3 +36,9 @@ pub struct Header {
     pub len: usize,
     pub kind: Kind,
 }
+
+// Some bytes of the frame: their offset from its start, and how many.
+pub struct Range {
+    pub at: usize,
+    pub len: usize,
+}

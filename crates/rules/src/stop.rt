@@ -1,6 +1,8 @@
-// Why the walk of an accepted frame stopped, with its number on paper.
+// Why the walk of an accepted frame stopped, with its number on paper; and the payload where it stopped.
 ghost use mathlib.Core.Path.{_≡_};
 ghost use Rattle.rules.specs.Paper.{stopNumber};
+use crate::Number;
+use crate::Range;
 
 pub enum Stop {
     EtherTypeNotOpened,
@@ -22,4 +24,11 @@ impl Stop {
             Stop::TransportRead => 5,
         }
     }
+}
+
+// Why the walk stopped, the number that names the payload, and the payload's range.
+pub struct Ending {
+    pub payload: Range,
+    pub number: Number,
+    pub stop: Stop,
 }

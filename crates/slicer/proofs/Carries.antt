@@ -2,11 +2,9 @@
 use Prim.Native.Nat.{ℕ, _+_, _-_, _≤_}
 use mathlib.Core.Path.{_≡_, refl, sym, ap, _∙_}
 use mathlib.Core.List.{List}
-use mathlib.Core.Bool.{Bool, true, false}
+use mathlib.Core.Bool.{Bool}
 use native.Mathlib.Omega.{arith}
 use lib.ListN.{length}
-use lib.Dec.{eqb}
-use borrow.Author.Tests.{eq-eqb, ne-eqb}
 use Rattle.rules.specs.declared.ip_number.IpNumber.{IpNumber}
 use Rattle.rules.specs.declared.kind.Kind.{Kind}
 use Rattle.rules.specs.declared.kind.Kind.the-variants.{Udp, Tcp}
@@ -14,38 +12,20 @@ use Rattle.rules.specs.declared.kind.RoomSource.{RoomSource}
 use Rattle.rules.specs.declared.place.Number.the-variants.{Ip}
 use Rattle.rules.specs.declared.place.Room.{Room}
 use Rattle.rules.specs.declared.stop.Stop.{Stop}
-use Rattle.rules.specs.declared.stop.Stop.the-variants as Z
-use Rattle.rules.specs.Bytes.{part, number}
+use Rattle.rules.specs.Bytes.{part}
 use Rattle.rules.specs.Numbers.{udpNumber, tcpNumber}
-use Rattle.rules.specs.Test.{pick, Outcome, Failure, whole, failed, placed}
+use Rattle.rules.specs.Test.{Outcome, Failure, whole, failed, placed}
 use Rattle.rules.specs.Paper.{stopNumber}
-use Rattle.rules.specs.Rules.{Turn, rule, says, opens, stops, transport, ipNumber, testsBy, udpEnd, lengthOf, declaredOf, marksOf, namesOf, turnOf, payloadOf}
-use Rattle.rules.specs.Place.{place, entered, leaves, follow, followOf, bytes}
+use Rattle.rules.specs.Rules.{Turn, rule, says, opens, stops, transport, testsBy, lengthOf, declaredOf, marksOf, namesOf, turnOf, payloadOf}
+use Rattle.rules.specs.Place.{place, entered, leaves, follow, followOf, endingOnPaper}
 use Rattle.laws.specs.Gather.{gather, rest, rest-next, rest-halt}
-use Rattle.laws.specs.Parts.{In, Stands, stands, falls, some-long}
+use Rattle.laws.specs.Parts.{In, stands, falls}
 use Rattle.headers.specs.declared.transport.TransportHeader.{TransportHeader}
 use Rattle.headers.specs.Says.{udpSays, tcpSays}
 use Rattle.slicer.specs.declared.packet.TransportPart.the-variants as P
-use Rattle.slicer.specs.Reply.{Parts, Reply, acceptedBy, refusedBy, sliceWay, withTransport, endingOnPaper}
+use Rattle.slicer.specs.Reply.{Parts, acceptedBy, refusedBy, sliceWay, withTransport}
 use Rattle.slicer.specs.Legs.{netRoom, onTransport, stoppedAt, openedAt}
 use Rattle.slicer.proofs.Reading.{whole-is, no}
-
--- what a number opens, or where the walk stops
-pub is-marked : (p : Room) (n : ℕ) → p .mark ≡ true → transport p n ≡ stops 3
-unfolding transport
-is-marked p n e = rw e
-
-pub is-udp : (p : Room) (n : ℕ) → p .mark ≡ false → n ≡ udpNumber → transport p n ≡ opens Udp
-unfolding transport
-is-udp p n e h = rw (e, eq-eqb _ _ h)
-
-pub is-tcp : (p : Room) (n : ℕ) → p .mark ≡ false → (n ≡ udpNumber → ⊥) → n ≡ tcpNumber → transport p n ≡ opens Tcp
-unfolding transport
-is-tcp p n e g h = rw (e, ne-eqb _ _ g, eq-eqb _ _ h)
-
-pub is-other : (p : Room) (n : ℕ) → p .mark ≡ false → (n ≡ udpNumber → ⊥) → (n ≡ tcpNumber → ⊥) → transport p n ≡ stops 4
-unfolding transport
-is-other p n e g h = rw (e, ne-eqb _ _ g, ne-eqb _ _ h)
 
 module _ (s : List ℕ) (end : ℕ) (source : RoomSource) (mark : Bool) (named : IpNumber) (at : ℕ) where
   toward : (f : Parts) (k : Kind) (t : ℕ) {u : Turn} → transport (netRoom k end t source mark) (named .0) ≡ u

@@ -1,15 +1,13 @@
 -- The IPv6 leg: the header, and the loop over its extensions. Assumes nothing.
-use Prim.Native.Nat.{ℕ, _+_, _-_, _≤_, _<_}
+use Prim.Native.Nat.{ℕ, _+_, _-_, _≤_}
 use mathlib.Core.Path.{_≡_, refl, sym, ap, _∙_, subst}
 use mathlib.Core.List.{List, [], _∷_}
-use mathlib.Core.Logic.{_⊎_, inl, inr}
 use mathlib.Core.Bool.{Bool, true, false, _||_}
 use native.Mathlib.Omega.{arith}
 use lib.ListN.{length}
 use lib.Dec.{eqb}
 use borrow.Author.Tests.{eq-eqb, ne-eqb}
 use Rattle.rules.specs.declared.ip_number.IpNumber.{IpNumber}
-use Rattle.rules.specs.declared.kind.Kind.{Kind}
 use Rattle.rules.specs.declared.kind.Kind.the-variants.{Ipv6, HopByHop}
 use Rattle.rules.specs.declared.kind.Layer.the-variants.{Of}
 use Rattle.rules.specs.declared.kind.RoomSource.{RoomSource}
@@ -21,20 +19,21 @@ use Rattle.rules.specs.declared.refusal.Row.{Row}
 use Rattle.rules.specs.Bytes.{part, number}
 use Rattle.rules.specs.Numbers.{hopByHopNotAtStart}
 use Rattle.rules.specs.Test.{pick, Outcome, Failure, whole, failed, placed, row}
-use Rattle.rules.specs.Rules.{Turn, opens, late, transport, chain6, rule, testsBy, lengthOf, declaredOf, marksOf, namesOf, turnOf, payloadOf}
+use Rattle.rules.specs.Rules.{Turn, transport, rule, testsBy, lengthOf, declaredOf, marksOf, namesOf, turnOf, payloadOf}
 use Rattle.rules.specs.Place.{room, place, entered, leaves, follow, followOf, bytes}
 use Rattle.laws.specs.Gather.{gather, rest, rest-next, rest-wrong}
-use Rattle.laws.specs.Parts.{In, Stands, stands, falls, in-next, some-long}
+use Rattle.laws.specs.Kinds.{declared6}
+use Rattle.laws.specs.Parts.{In, Stands, stands, falls, some-long}
 use Rattle.headers.specs.declared.net.IpHeader.{IpHeader}
 use Rattle.headers.specs.declared.net.ExtHeader.{ExtHeader}
 use Rattle.headers.specs.Says.{ipSays, extSays, extFields}
-use Rattle.slicer.specs.declared.turn.ExtKind.{ExtKind}
-use Rattle.slicer.specs.declared.turn.ExtKind.the-variants as X
-use Rattle.slicer.specs.declared.turn.ExtTurn.{ExtTurn}
-use Rattle.slicer.specs.declared.turn.ExtTurn.the-variants as T
+use Rattle.turns.specs.declared.turn.ExtKind.{ExtKind}
+use Rattle.turns.specs.declared.turn.ExtKind.the-variants as X
+use Rattle.turns.specs.declared.turn.ExtTurn.{ExtTurn}
+use Rattle.turns.specs.declared.turn.ExtTurn.the-variants as T
 use Rattle.slicer.specs.declared.net.ExtsFound.{ExtsFound}
-use Rattle.slicer.specs.Reply.{Parts, Reply, refusedBy, sliceWay, withNet, ipPart}
-use Rattle.slicer.specs.Turns.{kindOf, extTurn, turnBy, chain6-is}
+use Rattle.slicer.specs.Reply.{Parts, refusedBy, sliceWay, withNet, ipPart}
+use Rattle.turns.specs.Turns.{kindOf, extTurn, turnBy, chain6-is}
 use Rattle.slicer.specs.Legs.{netPlace, netRoom, onTransport, onChain, ExtsEnd, NetEnd}
 use Rattle.slicer.proofs.Reading.{whole-is, no}
 
@@ -146,13 +145,6 @@ set6-room : {s : List ℕ} {at d end : ℕ} {source : RoomSource} → Set6 s at 
     → room (pick (eqb d 0) (length s) (at + d)) t 6 1 (pick (eqb d 0) S.Slice S.Ipv6) false ≡ netRoom Ipv6 end t source false
 set6-room (none e) t = rw (eq-eqb _ 0 e) refl
 set6-room (some n) t = rw (ne-eqb _ 0 n) refl
-
-pub declared6 : (n have : ℕ) → 40 + n ≤ have → (pick (eqb n 0) 0 (40 + n) ≤ have) × ((pick (eqb n 0) 0 (40 + n) ≡ 0 → ⊥) → 40 ≤ pick (eqb n 0) 0 (40 + n))
-declared6 n have h = go (eqb n 0)
-  where
-    go : (b : Bool) → (pick b 0 (40 + n) ≤ have) × ((pick b 0 (40 + n) ≡ 0 → ⊥) → 40 ≤ pick b 0 (40 + n))
-    go true = (omega arith, λ q. absurd (q refl))
-    go false = (h, λ q. omega arith)
 
 module _ (s : List ℕ) (at : ℕ) (h : at ≤ length s) {o : Outcome IpHeader} (e : o ≡ ipSays Ipv6 (part s at (length s))) where
   framed : (t : ℕ) → In s at (netPlace s Ipv6 at t .room)

@@ -6,5 +6,3 @@ pub mod Nets
 pub mod Exts
 pub mod Carries
 pub mod Slices
-pub mod Steps
-pub mod Lists

@@ -1,15 +1,12 @@
 -- The IPv4 leg: the header, and its one AUTH. Assumes nothing.
-use Prim.Native.Nat.{ℕ, _+_, _-_, _*_, _%_, _≤_, _<_}
-use mathlib.Core.Path.{_≡_, refl, sym, ap, _∙_, subst}
+use Prim.Native.Nat.{ℕ, _+_, _-_, _≤_}
+use mathlib.Core.Path.{_≡_, refl, sym, ap, _∙_}
 use mathlib.Core.List.{List}
-use mathlib.Core.Bool.{Bool, true, false}
 use native.Mathlib.Omega.{arith}
 use lib.ListN.{length}
 use borrow.Author.Tests.{eq-eqb, ne-eqb}
-use Rattle.rules.specs.declared.ip_number.IpNumber.{IpNumber}
 use Rattle.rules.specs.declared.kind.Kind.{Kind}
-use Rattle.rules.specs.declared.kind.Kind.the-variants.{Ipv4, Ipv6, Auth}
-use Rattle.rules.specs.declared.kind.RoomSource.{RoomSource}
+use Rattle.rules.specs.declared.kind.Kind.the-variants.{Ipv4, Auth}
 use Rattle.rules.specs.declared.kind.RoomSource.the-variants as S
 use Rattle.rules.specs.declared.place.Header.{Header}
 use Rattle.rules.specs.declared.place.Number.the-variants.{Ip}
@@ -17,16 +14,15 @@ use Rattle.rules.specs.declared.place.Room.{Room}
 use Rattle.rules.specs.Bytes.{part}
 use Rattle.rules.specs.Numbers.{authNumber}
 use Rattle.rules.specs.Test.{Outcome, Failure, whole, failed, placed}
-use Rattle.rules.specs.Rules.{Turn, opens, transport, chain4, chain6, testsBy, lengthOf, declaredOf, marksOf, namesOf, turnOf, payloadOf}
+use Rattle.rules.specs.Rules.{chain4, testsBy, lengthOf, declaredOf, marksOf, namesOf, turnOf, payloadOf}
 use Rattle.rules.specs.Place.{room, place, leaves, follow, followOf}
 use Rattle.laws.specs.Gather.{gather, rest, rest-next}
 use Rattle.laws.specs.Parts.{In, Stands, stands, falls, in-next}
 use Rattle.headers.specs.declared.net.IpHeader.{IpHeader}
 use Rattle.headers.specs.declared.net.ExtHeader.{ExtHeader}
 use Rattle.headers.specs.Says.{ipSays, extSays}
-use Rattle.slicer.specs.declared.net.NetFound.{NetFound}
 use Rattle.slicer.specs.Reply.{Parts, refusedBy, sliceWay, withNet, ipPart}
-use Rattle.slicer.specs.Legs.{netPlace, netRoom, onTransport, onChain, NetEnd}
+use Rattle.slicer.specs.Legs.{netPlace, netRoom, onTransport, NetEnd}
 use Rattle.slicer.proofs.Reading.{whole-is, no}
 
 -- what a whole IPv4 header says of its lengths

@@ -1,28 +1,26 @@
 -- The reply put together: tag slots, and what the link's last number leads to. Assumes nothing.
 use Prim.Native.Nat.{ℕ, zero, suc, _+_, _-_, _*_, _≤_, _<_}
-use mathlib.Core.Path.{_≡_, refl, sym, ap, _∙_}
+use mathlib.Core.Path.{_≡_, refl, ap, _∙_}
 use mathlib.Core.List.{List, [], _∷_}
 use mathlib.Core.Bool.{Bool, true, false}
 use native.Mathlib.Omega.{arith}
 use native.Mathlib.Numerals.{add-one}
 use lib.ListN.{length, set}
 use lib.Dec.{eqb, ltb}
-use borrow.Author.Tests.{eq-eqb, ne-eqb, le-ltb}
-use Rattle.rules.specs.declared.ether_type.EtherType.{EtherType}
+use borrow.Author.Tests.{ne-eqb, le-ltb}
 use Rattle.rules.specs.declared.kind.Kind.{Kind}
 use Rattle.rules.specs.declared.kind.Kind.the-variants.{Vlan, Ipv4, Ipv6}
-use Rattle.rules.specs.declared.kind.RoomSource.the-variants as S
 use Rattle.rules.specs.declared.place.Number.the-variants.{Link}
+use Rattle.rules.specs.declared.place.Range.{Range}
 use Rattle.rules.specs.declared.place.Room.{Room}
-use Rattle.rules.specs.Numbers.{tagLimit, tagsFull, etherTypeNotOpened, ipv4Type, ipv6Type, ethernetLength}
+use Rattle.rules.specs.Numbers.{tagLimit, tagsFull, etherTypeNotOpened, ipv4Type, ipv6Type}
 use Rattle.rules.specs.Test.{pick}
 use Rattle.rules.specs.Rules.{Turn, opens, stops, link, isTag}
-use Rattle.rules.specs.Place.{place, follow, start, Stopped}
+use Rattle.rules.specs.Place.{follow, start}
 use Rattle.rules.specs.Walk.{slices}
 use Rattle.laws.specs.Gather.{gather, rest, rest-next, rest-halt}
-use Rattle.slicer.specs.declared.packet.Range.{Range}
 use Rattle.slicer.specs.declared.link.LinkFound.{LinkFound}
-use Rattle.slicer.specs.Reply.{Parts, nothing, range, slots, acceptedBy, Reply, replyOf, sliceWay}
+use Rattle.slicer.specs.Reply.{nothing, range, slots, acceptedBy, Reply, replyOf, sliceWay}
 use Rattle.slicer.specs.Legs.{tagsFrom, linkParts, linkRoom, onLink, netPlace, LinkEnd}
 
 -- the promised reply is gathered from the first place on

@@ -1,7 +1,7 @@
 -- What each leg of the walk promises: the reply from where it begins is its refusal's, or the reply from where it ends, with
 -- what it found put in.
 use Prim.Native.Nat.{ℕ, zero, suc, _+_, _-_, _≤_}
-use mathlib.Core.Path.{_≡_, subst}
+use mathlib.Core.Path.{_≡_}
 use mathlib.Core.List.{List, [], _∷_}
 use mathlib.Core.Bool.{Bool, true, false}
 use lib.ListN.{length}
@@ -14,6 +14,7 @@ use Rattle.rules.specs.declared.kind.RoomSource.the-variants as S
 use Rattle.rules.specs.declared.place.Header.{Header}
 use Rattle.rules.specs.declared.place.Number.the-variants.{Link, Ip}
 use Rattle.rules.specs.declared.place.Place.{Place}
+use Rattle.rules.specs.declared.place.Range.{Range}
 use Rattle.rules.specs.declared.place.Room.{Room}
 use Rattle.rules.specs.declared.refusal.Refusal.{Refusal}
 use Rattle.rules.specs.declared.refusal.Row.{Row}
@@ -21,13 +22,11 @@ use Rattle.rules.specs.Numbers.{ethernetLength, tagLength, tagLimit}
 use Rattle.rules.specs.Test.{pick}
 use Rattle.rules.specs.Paper.{refusalOnPaper}
 use Rattle.rules.specs.Rules.{rule, isTag, link, transport, chain6}
-use Rattle.rules.specs.Place.{room, place, start, follow, Stopped}
+use Rattle.rules.specs.Place.{room, place, start, follow, endingOnPaper}
 use Rattle.laws.specs.Gather.{gather, rest}
-use Rattle.laws.specs.Parts.{In}
 use Rattle.rules.specs.declared.stop.Stop.{Stop}
 use Rattle.rules.specs.declared.stop.Stop.the-variants as Z
 use Rattle.headers.specs.declared.transport.TransportHeader.{TransportHeader}
-use Rattle.slicer.specs.declared.packet.Range.{Range}
 use Rattle.slicer.specs.declared.packet.NetPart.{NetPart}
 use Rattle.slicer.specs.declared.packet.TransportPart.{TransportPart}
 use Rattle.slicer.specs.declared.packet.TransportPart.the-variants as P
@@ -43,7 +42,7 @@ use Rattle.slicer.specs.declared.net.ExtsLeg.the-variants as E
 use Rattle.slicer.specs.declared.transport.TransportFound.{TransportFound}
 use Rattle.slicer.specs.declared.transport.TransportLeg.{TransportLeg}
 use Rattle.slicer.specs.declared.transport.TransportLeg.the-variants as T
-use Rattle.slicer.specs.Reply.{Parts, nothing, range, withLink, withNet, withTransport, ipPart, Reply, refusedBy, acceptedBy, sliceWay, endingOnPaper}
+use Rattle.slicer.specs.Reply.{Parts, nothing, range, withLink, withNet, withTransport, ipPart, Reply, refusedBy, acceptedBy, sliceWay}
 
 -- ---- how a leg ends
 

@@ -2,21 +2,19 @@
 use Prim.Native.Nat.{ℕ, zero, suc, _+_, _-_}
 use mathlib.Core.List.{List, [], _∷_, _++_}
 use mathlib.Core.Bool.{Bool}
-use lib.ListN.{length, replicate}
+use lib.ListN.{length}
 use Rattle.rules.specs.declared.kind.Kind.{Kind}
 use Rattle.rules.specs.declared.kind.Kind.the-variants.{Ethernet2, Vlan, Ipv4, Ipv6, HopByHop, Routing, Destination, Fragment, Auth, Udp, Tcp}
 use Rattle.rules.specs.declared.place.Header.{Header}
+use Rattle.rules.specs.declared.place.Range.{Range}
 use Rattle.rules.specs.declared.refusal.Row.{Row}
 use Rattle.rules.specs.Numbers.{tagLimit}
 use Rattle.rules.specs.declared.kind.Layer.the-variants.{Of}
 use Rattle.rules.specs.Test.{row}
-use Rattle.rules.specs.Paper.{stopNumber, refusalOnPaper}
-use Rattle.rules.specs.Place.{Stopped, start}
+use Rattle.rules.specs.Paper.{refusalOnPaper}
+use Rattle.rules.specs.Place.{Stopped, endingOnPaper}
 use Rattle.rules.specs.Walk.{Entry, header, slices}
 use Rattle.laws.specs.Gather.{Way, gathered}
-use Rattle.slicer.specs.declared.packet.Entry.{Entry as Given}
-use Rattle.slicer.specs.declared.packet.Entry.the-variants as E
-use Rattle.slicer.specs.declared.packet.Range.{Range}
 use Rattle.slicer.specs.declared.packet.LinkPart.{LinkPart}
 use Rattle.slicer.specs.declared.packet.LinkPart.the-variants as L
 use Rattle.slicer.specs.declared.packet.IpPart.{IpPart}
@@ -24,16 +22,9 @@ use Rattle.slicer.specs.declared.packet.NetPart.{NetPart}
 use Rattle.slicer.specs.declared.packet.NetPart.the-variants as N
 use Rattle.slicer.specs.declared.packet.TransportPart.{TransportPart}
 use Rattle.slicer.specs.declared.packet.TransportPart.the-variants as T
-use Rattle.slicer.specs.declared.packet.Ending.{Ending}
 use Rattle.slicer.specs.declared.packet.Outcome.{Outcome}
 use Rattle.slicer.specs.declared.packet.Outcome.the-variants as O
 use Rattle.slicer.specs.declared.packet.SlicedPacket.{SlicedPacket}
-
--- the kind of the first header, by the entry
-abbrev pub entryKind : Given → Kind
-entryKind E.Ethernet = Ethernet2
-entryKind E.Ipv4 = Ipv4
-entryKind E.Ipv6 = Ipv6
 
 abbrev pub range : ℕ → ℕ → Range
 range at len = record { at = at; len = len }
@@ -125,9 +116,6 @@ unfoldable pub replyOf : Kind → List ℕ → Reply
 replyOf k s = gathered sliceWay nothing (slices k s)
 
 -- ---- the code's reply on paper
-
-abbrev pub endingOnPaper : Ending → Stopped
-endingOnPaper e = record { why = stopNumber (e .stop); number = e .number; at = e .payload .at; len = e .payload .len }
 
 abbrev pub outcomeOnPaper : Outcome → Ended
 outcomeOnPaper (O.Accepted e) = accepted (endingOnPaper e)

@@ -1,20 +1,19 @@
 // The link leg: the Ethernet header and its tags, up to the number that is no tag to open.
-ghost use mathlib.Core.Path.{_≡_};
 ghost use Prim.Native.Nat.{_≤_};
 ghost use lib.ListN.{length};
 ghost use Rattle.rules.specs.Numbers.{ethernetLength};
-ghost use Rattle.slicer.specs.Reply.{entryKind};
+ghost use Rattle.rules.specs.Place.{entryKind};
 ghost use Rattle.slicer.specs.Legs.{Linked, Tagged, linkLegOnPaper};
-use crate::packet::Entry;
-use crate::refuse::refuse_link;
-use crate::turn::is_tag;
 use headers::LinkRead;
+use rules::Entry;
 use rules::EtherType;
 use rules::Refusal;
 use rules::RoomSource;
 use rules::ether_type;
 use rules::ether_type::TAG_LIMIT;
 use rules::length;
+use turns::is_tag;
+use turns::refuse_link;
 
 // Where the link ends: the number that names what follows, its offset, the tags held, and whether there was a link header.
 pub struct LinkFound {

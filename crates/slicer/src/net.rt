@@ -1,17 +1,11 @@
 // The net leg: an IPv4 header with its AUTH, or an IPv6 header with its extensions, up to the number that ends them.
 ghost use mathlib.Core.Path.{_≡_};
-ghost use mathlib.Core.Bool.{_||_};
 ghost use Prim.Native.Nat.{_≤_};
 ghost use lib.ListN.{length};
 ghost use Rattle.rules.specs.declared.kind.Kind.the-variants as K;
 ghost use Rattle.headers.specs.Says.{extOnPaper, extSays};
-ghost use Rattle.slicer.specs.Turns.{kindOf};
+ghost use Rattle.turns.specs.Turns.{kindOf};
 ghost use Rattle.slicer.specs.Legs.{Netted, netLegOnPaper, Extended, extsLegOnPaper, Shut};
-use crate::refuse::refuse_ext;
-use crate::refuse::refuse_ip;
-use crate::turn::ExtKind;
-use crate::turn::ExtTurn;
-use crate::turn::ext_turn;
 use headers::ExtRead;
 use headers::IpRead;
 use rules::IpNumber;
@@ -19,7 +13,12 @@ use rules::Kind;
 use rules::Refusal;
 use rules::RoomSource;
 use rules::ip_number;
-use rules::length;
+use turns::ExtKind;
+use turns::ExtTurn;
+use turns::either;
+use turns::ext_turn;
+use turns::refuse_ext;
+use turns::refuse_ip;
 
 // An IP header, where its extensions end and its room ends, and the number that names what follows.
 pub struct NetFound {
@@ -89,15 +88,6 @@ pub fn read_ext(w: &[u8], kind: ExtKind) -> ExtRead
         ExtKind::Fragment => headers::read_fragment(w),
         ExtKind::Auth => headers::read_auth(w),
     }
-}
-
-pub fn either(a: bool, b: bool) -> bool
-    ensures { λ r. ⌜ r ≡ (a || b) ⌝ }
-{
-    if a {
-        return true;
-    }
-    b
 }
 
 // Where an extension chain ends.

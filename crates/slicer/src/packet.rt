@@ -1,22 +1,9 @@
 // The reply: what was found in a frame, and how the walk ended.
+use rules::Ending;
 use rules::Header;
-use rules::Number;
+use rules::Range;
 use rules::Refusal;
-use rules::Stop;
 use rules::ether_type::TAG_LIMIT;
-
-// What the collector says that a frame begins with.
-pub enum Entry {
-    Ethernet,
-    Ipv4,
-    Ipv6,
-}
-
-// Some bytes of the frame: their offset from its start, and how many.
-pub struct Range {
-    pub at: usize,
-    pub len: usize,
-}
 
 pub enum LinkPart {
     Nothing,
@@ -38,13 +25,6 @@ pub enum NetPart {
 pub enum TransportPart {
     Nothing,
     Is(Header),
-}
-
-// Why the walk stopped, the number that names the payload, and the payload's range.
-pub struct Ending {
-    pub payload: Range,
-    pub number: Number,
-    pub stop: Stop,
 }
 
 pub enum Outcome {

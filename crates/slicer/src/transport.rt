@@ -3,20 +3,20 @@ ghost use mathlib.Core.Path.{_≡_};
 ghost use Prim.Native.Nat.{_+_, _≤_, _<_, _^_};
 ghost use lib.ListN.{length};
 ghost use Rattle.slicer.specs.Legs.{Carried, transportLegOnPaper, stoppedAt, openedAt};
-use crate::packet::Ending;
-use crate::packet::Range;
 use crate::packet::TransportPart;
-use crate::refuse::refuse_transport;
 use headers::TransportHeader;
 use headers::TransportRead;
+use rules::Ending;
 use rules::Header;
 use rules::IpNumber;
 use rules::Kind;
 use rules::Number;
+use rules::Range;
 use rules::Refusal;
 use rules::RoomSource;
 use rules::Stop;
 use rules::ip_number;
+use turns::refuse_transport;
 
 pub struct TransportFound {
     pub ending: Ending,

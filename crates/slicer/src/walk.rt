@@ -8,12 +8,11 @@ ghost use Rattle.rules.specs.Numbers.{ethernetLength, tagLimit, tagsFull, ether
 ghost use Rattle.rules.specs.Test.{pick};
 ghost use Rattle.rules.specs.Paper.{refusalOnPaper, stopNumber};
 ghost use Rattle.rules.specs.Rules.{isTag};
+ghost use Rattle.rules.specs.Place.{entryKind, endingOnPaper};
 ghost use Rattle.slicer.specs.Reply.{
-  entryKind,
   packetOnPaper,
   refusedBy,
   acceptedBy,
-  endingOnPaper,
   replyOf,
   slots,
 };
@@ -36,27 +35,27 @@ use crate::net::NetFound;
 use crate::net::NetLeg;
 use crate::net::walk_ipv4;
 use crate::net::walk_ipv6;
-use crate::packet::Ending;
-use crate::packet::Entry;
 use crate::packet::IpPart;
 use crate::packet::LinkPart;
 use crate::packet::NetPart;
 use crate::packet::Outcome;
-use crate::packet::Range;
 use crate::packet::SlicedPacket;
 use crate::packet::TransportPart;
 use crate::transport::TransportLeg;
 use crate::transport::walk_transport;
-use crate::turn::is_tag;
+use rules::Ending;
+use rules::Entry;
 use rules::EtherType;
 use rules::Header;
 use rules::Kind;
 use rules::Number;
+use rules::Range;
 use rules::Refusal;
 use rules::Stop;
 use rules::ether_type;
 use rules::ether_type::TAG_LIMIT;
 use rules::length;
+use turns::is_tag;
 
 fn link_refusal(leg: LinkLeg) -> Refusal
     ensures { λ r. ⌜ Shut r (linkLegOnPaper leg) ⌝ }

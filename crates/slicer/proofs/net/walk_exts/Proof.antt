@@ -3,6 +3,7 @@ use Prim.Native.Nat.{_-_}
 use native.Mathlib.Omega.{arith}
 use mathlib.Core.Path.{sym, ap, _∙_}
 use Rattle.headers.specs.Says.{extOnPaper}
+use Rattle.turns.specs.Refuses.{failed-row}
 use Rattle.slicer.specs.Reply.{refusedBy}
 use Rattle.slicer.specs.Legs.{went, stuck}
 use Rattle.slicer.proofs.Exts.{Along, along-first, along-short, along-ahead, along-on, along-late, along-ends}
@@ -47,7 +48,7 @@ refuse-ext-requires : tie.Need-refuse-ext-requires Inv-loop μ-loop
 refuse-ext-requires c κs = search needs
 
 returns : tie.Need-returns Inv-loop μ-loop
-returns c = let z = ap extOnPaper (c .before .enum-told .given .1) in stuck (λ f h t. along-short (c .before .before .before .before .before .before .before .before .before .loop .inv) (c .before .before .before .before .before .before .before .before .ext-turn .ensures) _ (c .before .before .before .before .before .before .turn .given .1) (c .before .before .before .read-ext .ensures) z f h t ∙ ap refusedBy (sym (c .refuse-ext .ensures _ z)))
+returns c = let z = ap extOnPaper (c .before .enum-told .given .1) in stuck (λ f h t. along-short (c .before .before .before .before .before .before .before .before .before .loop .inv) (c .before .before .before .before .before .before .before .before .ext-turn .ensures) _ (c .before .before .before .before .before .before .turn .given .1) (c .before .before .before .read-ext .ensures) z f h t ∙ ap refusedBy (sym (failed-row _ _ (c .refuse-ext .ensures) z)))
 
 add-at : tie.Need-add-at Inv-loop μ-loop
 add-at c = let z = along-ahead (c .before .before .before .before .before .before .before .before .before .before .before .loop .inv) (c .before .before .before .before .before .before .before .before .before .before .ext-turn .ensures) _ (c .before .before .before .before .before .before .before .before .turn .given .1) (c .before .before .before .before .before .read-ext .ensures) (ap extOnPaper (c .before .before .before .answer .given .1)) in omega (arith, c .before .before .before .before .before .before .before .before .before .before .before .loop .inv .inside, c .before .before .before .before .before .before .before .before .before .before .before .loop .inv .room)

@@ -2,6 +2,7 @@
 use native.Mathlib.Omega.{arith}
 use mathlib.Core.Path.{sym, ap, _∙_}
 use Rattle.headers.specs.Says.{ipOnPaper, extOnPaper}
+use Rattle.turns.specs.Refuses.{failed-row}
 use Rattle.slicer.specs.Reply.{refusedBy}
 use Rattle.slicer.specs.Legs.{went, stuck}
 use Rattle.slicer.proofs.Nets.{ipv4-short, ipv4-fits, ipv4-plain, auth-short, auth-in, ipv4-auth}
@@ -31,7 +32,7 @@ refuse-ip-requires : tie.Need-refuse-ip-requires
 refuse-ip-requires c κs = search needs
 
 returns : tie.Need-returns
-returns c = let z = ap ipOnPaper (c .before .enum-told .given .1) in stuck (λ f t. ipv4-short (c .before .before .before .before .before .before .args .s .now) (c .before .before .before .before .before .before .args .at) (c .before .before .before .before .before .before .pre) (c .before .before .before .read-ipv4 .ensures) z f t ∙ ap refusedBy (sym (c .refuse-ip .ensures _ z)))
+returns c = let z = ap ipOnPaper (c .before .enum-told .given .1) in stuck (λ f t. ipv4-short (c .before .before .before .before .before .before .args .s .now) (c .before .before .before .before .before .before .args .at) (c .before .before .before .before .before .before .pre) (c .before .before .before .read-ipv4 .ensures) z f t ∙ ap refusedBy (sym (failed-row _ _ (c .refuse-ip .ensures) z)))
 
 add-next : tie.Need-add-next
 add-next c = let z = ipv4-fits (c .before .before .before .before .before .before .before .args .s .now) (c .before .before .before .before .before .before .before .args .at) (c .before .before .before .before .before .before .before .pre) (c .before .before .before .before .read-ipv4 .ensures) (ap ipOnPaper (c .before .before .answer .given .1)) in omega arith
@@ -64,7 +65,7 @@ refuse-ext-requires : tie.Need-refuse-ext-requires
 refuse-ext-requires c κs = search needs
 
 returns-3 : tie.Need-returns-3
-returns-3 c = let z = ap extOnPaper (c .before .enum-told2 .given .1) in stuck (λ f t. auth-short (c .before .before .before .before .before .before .before .before .before .before .before .before .before .before .before .before .args .s .now) (c .before .before .before .before .before .before .before .before .before .before .before .before .before .before .before .before .args .at) (c .before .before .before .before .before .before .before .before .before .before .before .before .before .before .before .before .pre) (c .before .before .before .before .before .before .before .before .before .before .before .before .before .read-ipv4 .ensures) (ap ipOnPaper (c .before .before .before .before .before .before .before .before .before .before .before .answer .given .1)) (c .before .before .before .before .before .if1 .left) (c .before .before .before .read-auth .ensures) z f t ∙ ap refusedBy (sym (c .refuse-ext .ensures _ z)))
+returns-3 c = let z = ap extOnPaper (c .before .enum-told2 .given .1) in stuck (λ f t. auth-short (c .before .before .before .before .before .before .before .before .before .before .before .before .before .before .before .before .args .s .now) (c .before .before .before .before .before .before .before .before .before .before .before .before .before .before .before .before .args .at) (c .before .before .before .before .before .before .before .before .before .before .before .before .before .before .before .before .pre) (c .before .before .before .before .before .before .before .before .before .before .before .before .before .read-ipv4 .ensures) (ap ipOnPaper (c .before .before .before .before .before .before .before .before .before .before .before .answer .given .1)) (c .before .before .before .before .before .if1 .left) (c .before .before .before .read-auth .ensures) z f t ∙ ap refusedBy (sym (failed-row _ _ (c .refuse-ext .ensures) z)))
 
 add-behind : tie.Need-add-behind
 add-behind c = let z = ipv4-fits (c .before .before .before .before .before .before .before .before .before .before .before .before .before .before .before .before .before .args .s .now) (c .before .before .before .before .before .before .before .before .before .before .before .before .before .before .before .before .before .args .at) (c .before .before .before .before .before .before .before .before .before .before .before .before .before .before .before .before .before .pre) (c .before .before .before .before .before .before .before .before .before .before .before .before .before .before .read-ipv4 .ensures) (ap ipOnPaper (c .before .before .before .before .before .before .before .before .before .before .before .before .answer .given .1)) in let y = auth-in (c .before .before .before .before .before .before .before .before .before .before .before .before .before .before .before .before .before .args .s .now) (c .before .before .before .before .before .before .before .before .before .before .before .before .before .before .before .before .before .args .at) (c .before .before .before .before .before .before .before .before .before .before .before .before .before .before .before .before .before .pre) (c .before .before .before .before .before .before .before .before .before .before .before .before .before .before .read-ipv4 .ensures) (ap ipOnPaper (c .before .before .before .before .before .before .before .before .before .before .before .before .answer .given .1)) (c .before .before .before .before .before .before .if1 .left) (c .before .before .before .before .read-auth .ensures) (ap extOnPaper (c .before .before .auth .given .1)) in omega arith

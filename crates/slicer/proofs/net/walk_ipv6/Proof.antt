@@ -4,10 +4,11 @@ use native.Mathlib.Omega.{arith}
 use mathlib.Core.Path.{sym, ap, _∙_}
 use mathlib.Core.Logic.{⊎-elim}
 use Rattle.headers.specs.Says.{ipOnPaper}
+use Rattle.turns.specs.Refuses.{failed-row}
 use Rattle.slicer.specs.Reply.{refusedBy}
 use Rattle.slicer.specs.Legs.{went, stuck, extsLegOnPaper}
 use Rattle.slicer.proofs.Answers.{there, turned}
-use Rattle.slicer.proofs.Exts.{Set6, none, some, ipv6-short, ipv6-in, ipv6-holds, ipv6-done, ipv6-stuck}
+use Rattle.slicer.proofs.Exts.{ipv6-short, ipv6-in, ipv6-holds, ipv6-done, ipv6-stuck}
 use borrow.Author.Needs.{needs}
 use Rattle.slicer.proofs.net.walk_ipv6.Statement.{statement}
 use Rattle.slicer.proofs.net.walk_ipv6.Tie as tie
@@ -34,7 +35,7 @@ refuse-ip-requires : tie.Need-refuse-ip-requires
 refuse-ip-requires c κs = search needs
 
 returns : tie.Need-returns
-returns c = let z = ap ipOnPaper (c .before .enum-told .given .1) in stuck (λ f t. ipv6-short (c .before .before .before .before .before .before .args .s .now) (c .before .before .before .before .before .before .args .at) (c .before .before .before .before .before .before .pre) (c .before .before .before .read-ipv6 .ensures) z f t ∙ ap refusedBy (sym (c .refuse-ip .ensures _ z)))
+returns c = let z = ap ipOnPaper (c .before .enum-told .given .1) in stuck (λ f t. ipv6-short (c .before .before .before .before .before .before .args .s .now) (c .before .before .before .before .before .before .args .at) (c .before .before .before .before .before .before .pre) (c .before .before .before .read-ipv6 .ensures) z f t ∙ ap refusedBy (sym (failed-row _ _ (c .refuse-ip .ensures) z)))
 
 add-from : tie.Need-add-from
 add-from c = let z = ipv6-in (c .before .before .before .before .before .before .before .args .s .now) (c .before .before .before .before .before .before .before .args .at) (c .before .before .before .before .before .before .before .pre) (c .before .before .before .before .read-ipv6 .ensures) (ap ipOnPaper (c .before .before .answer .given .1)) in omega arith

@@ -4,9 +4,11 @@ use mathlib.Core.Path.{refl, sym, ap, _∙_}
 use Rattle.rules.specs.declared.stop.Stop.the-variants as Z
 use Rattle.rules.specs.declared.kind.Kind.the-variants as K
 use Rattle.headers.specs.Says.{transportOnPaper}
+use Rattle.turns.specs.Turns.{is-marked, is-udp, is-tcp, is-other}
+use Rattle.turns.specs.Refuses.{failed-row}
 use Rattle.slicer.specs.Reply.{refusedBy}
 use Rattle.slicer.specs.Legs.{went, stuck}
-use Rattle.slicer.proofs.Carries.{is-marked, is-udp, is-tcp, is-other, unopened, opened-short, udp-in, udp-on, tcp-in, tcp-on}
+use Rattle.slicer.proofs.Carries.{unopened, opened-short, udp-in, udp-on, tcp-in, tcp-on}
 use borrow.Author.Needs.{needs}
 use Rattle.slicer.proofs.transport.walk_transport.Statement.{statement}
 use Rattle.slicer.proofs.transport.walk_transport.Tie as tie
@@ -39,7 +41,7 @@ refuse-transport-requires : tie.Need-refuse-transport-requires
 refuse-transport-requires c κs = search needs
 
 returns-2 : tie.Need-returns-2
-returns-2 c = let z = ap transportOnPaper (c .before .enum-told .given .1) in stuck (λ f k t. opened-short (c .before .before .before .before .before .before .before .before .before .args .s .now) _ _ _ _ _ (c .before .before .before .before .before .before .before .before .before .pre .0) (c .before .before .before .before .before .before .before .before .before .pre .1) K.Udp (λ k t. is-udp _ _ (c .before .before .before .before .before .before .before .if1 .left) (c .before .before .before .before .before .if2 .taken)) (λ p. refl) _ (c .before .before .before .read-udp .ensures) z f k t ∙ ap refusedBy (sym (c .refuse-transport .ensures _ z)))
+returns-2 c = let z = ap transportOnPaper (c .before .enum-told .given .1) in stuck (λ f k t. opened-short (c .before .before .before .before .before .before .before .before .before .args .s .now) _ _ _ _ _ (c .before .before .before .before .before .before .before .before .before .pre .0) (c .before .before .before .before .before .before .before .before .before .pre .1) K.Udp (λ k t. is-udp _ _ (c .before .before .before .before .before .before .before .if1 .left) (c .before .before .before .before .before .if2 .taken)) (λ p. refl) _ (c .before .before .before .read-udp .ensures) z f k t ∙ ap refusedBy (sym (failed-row _ _ (c .refuse-transport .ensures) z)))
 
 opened-requires : tie.Need-opened-requires
 opened-requires c κs = let y = udp-in (c .before .before .before .before .before .before .before .before .before .args .s .now) (c .before .before .before .before .before .before .before .before .before .args .end) (c .before .before .before .before .before .before .before .before .before .args .source) (c .before .before .before .before .before .before .before .before .before .args .mark) (c .before .before .before .before .before .before .before .before .before .args .number) (c .before .before .before .before .before .before .before .before .before .args .at) (c .before .before .before .before .before .before .before .before .before .pre .0) (c .before .before .before .before .before .before .before .before .before .pre .1) (λ k t. is-udp _ _ (c .before .before .before .before .before .before .before .if1 .left) (c .before .before .before .before .before .if2 .taken)) (c .before .before .before .before .before .if2 .taken) (c .before .before .before .read-udp .ensures) (ap transportOnPaper (c .before .answer .given .1)) in (y .0, omega (arith, y .1))
@@ -69,7 +71,7 @@ refuse-transport-requires-2 : tie.Need-refuse-transport-requires-2
 refuse-transport-requires-2 c κs = search needs
 
 returns-4 : tie.Need-returns-4
-returns-4 c = let z = ap transportOnPaper (c .before .enum-told2 .given .1) in stuck (λ f k t. opened-short (c .before .before .before .before .before .before .before .before .before .before .before .args .s .now) _ _ _ _ _ (c .before .before .before .before .before .before .before .before .before .before .before .pre .0) (c .before .before .before .before .before .before .before .before .before .before .before .pre .1) K.Tcp (λ k t. is-tcp _ _ (c .before .before .before .before .before .before .before .before .before .if1 .left) (c .before .before .before .before .before .before .before .if2 .left) (c .before .before .before .before .before .if3 .taken)) (λ p. refl) _ (c .before .before .before .read-tcp .ensures) z f k t ∙ ap refusedBy (sym (c .refuse-transport2 .ensures _ z)))
+returns-4 c = let z = ap transportOnPaper (c .before .enum-told2 .given .1) in stuck (λ f k t. opened-short (c .before .before .before .before .before .before .before .before .before .before .before .args .s .now) _ _ _ _ _ (c .before .before .before .before .before .before .before .before .before .before .before .pre .0) (c .before .before .before .before .before .before .before .before .before .before .before .pre .1) K.Tcp (λ k t. is-tcp _ _ (c .before .before .before .before .before .before .before .before .before .if1 .left) (c .before .before .before .before .before .before .before .if2 .left) (c .before .before .before .before .before .if3 .taken)) (λ p. refl) _ (c .before .before .before .read-tcp .ensures) z f k t ∙ ap refusedBy (sym (failed-row _ _ (c .refuse-transport2 .ensures) z)))
 
 opened-requires-2 : tie.Need-opened-requires-2
 opened-requires-2 c κs = let y = tcp-in (c .before .before .before .before .before .before .before .before .before .before .before .args .s .now) (c .before .before .before .before .before .before .before .before .before .before .before .args .end) (c .before .before .before .before .before .before .before .before .before .before .before .args .source) (c .before .before .before .before .before .before .before .before .before .before .before .args .mark) (c .before .before .before .before .before .before .before .before .before .before .before .args .number) (c .before .before .before .before .before .before .before .before .before .before .before .args .at) (c .before .before .before .before .before .before .before .before .before .before .before .pre .0) (c .before .before .before .before .before .before .before .before .before .before .before .pre .1) (λ k t. is-tcp _ _ (c .before .before .before .before .before .before .before .before .before .if1 .left) (c .before .before .before .before .before .before .before .if2 .left) (c .before .before .before .before .before .if3 .taken)) (c .before .before .before .before .before .if3 .taken) (c .before .before .before .read-tcp .ensures) (ap transportOnPaper (c .before .answer2 .given .1)) in (y .0, omega (arith, y .1))

@@ -1,7 +1,7 @@
 -- `walk::accepted` meets its contract. Assumes nothing.
 use Rattle.rules.specs.Numbers.{ethernetLength}
 use Rattle.slicer.proofs.Slices.{tags-length}
-use mathlib.Core.Path.{_≡_, refl, sym, ap, _∙_}
+use mathlib.Core.Path.{refl}
 use borrow.Author.Needs.{needs}
 use Rattle.slicer.proofs.walk.accepted.Statement.{statement}
 use Rattle.slicer.proofs.walk.accepted.Tie as tie

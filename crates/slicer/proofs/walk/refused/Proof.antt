@@ -1,7 +1,6 @@
 -- `walk::refused` meets its contract. Assumes nothing.
 use mathlib.Core.Path.{refl}
 use Rattle.slicer.specs.Reply.{slots}
-use borrow.Author.Needs.{needs}
 use Rattle.slicer.proofs.walk.refused.Statement.{statement}
 use Rattle.slicer.proofs.walk.refused.Tie as tie
 

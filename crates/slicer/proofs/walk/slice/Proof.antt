@@ -3,7 +3,7 @@ use native.Mathlib.Omega.{arith}
 use mathlib.Core.Path.{refl, sym, ap, _∙_}
 use Rattle.rules.specs.declared.kind.Kind.the-variants as K
 use Rattle.slicer.specs.Reply.{refusedBy}
-use Rattle.slicer.specs.Legs.{linkLegOnPaper, netLegOnPaper, linkParts}
+use Rattle.slicer.specs.Legs.{linkLegOnPaper, netLegOnPaper}
 use Rattle.slicer.proofs.Slices.{reply-is, to-v4, to-v6, to-stop}
 use Rattle.slicer.proofs.Answers.{there, turned}
 use borrow.Author.Needs.{needs}

@@ -1,10 +1,10 @@
 -- `walk::tag_ranges` meets its contract. Assumes nothing.
 use Prim.Native.Nat.{_+_, _-_, _*_, _≤_}
 use native.Mathlib.Omega.{arith}
-use mathlib.Core.Path.{_≡_, refl, sym, ap, _∙_}
+use mathlib.Core.Path.{_≡_, refl, ap, _∙_}
 use Rattle.slicer.specs.Legs.{tagsFrom}
 use Rattle.slicer.specs.Reply.{slots}
-use Rattle.slicer.proofs.Slices.{slot-filled, slots-length}
+use Rattle.slicer.proofs.Slices.{slot-filled}
 use borrow.Author.Needs.{needs}
 use Rattle.slicer.proofs.walk.tag_ranges.Statement.{statement}
 use Rattle.slicer.proofs.walk.tag_ranges.Tie as tie

@@ -1,0 +1,60 @@
+-- Headers by number and their count, as one walk gathers them.
+use Prim.Native.Nat.{ℕ, _+_}
+use mathlib.Core.Path.{_≡_}
+use mathlib.Core.List.{[]}
+use mathlib.Core.Bool.{true, false}
+use lib.Dec.{eqb}
+use Rattle.rules.specs.declared.kind.Kind.the-variants.{Ethernet2}
+use Rattle.rules.specs.declared.kind.Layer.the-variants.{Of}
+use Rattle.rules.specs.declared.place.Header.{Header}
+use Rattle.rules.specs.declared.refusal.Refusal.{Refusal}
+use Rattle.rules.specs.declared.refusal.Row.{Row}
+use Rattle.rules.specs.Test.{pick, row}
+use Rattle.rules.specs.Paper.{refusalOnPaper}
+use Rattle.rules.specs.Place.{refuses}
+use Rattle.rules.specs.Walk.{header, Answer, is, no-more, refusal}
+use Rattle.laws.specs.Gather.{Way}
+use Rattle.steps.specs.declared.list.HeaderAnswer.{HeaderAnswer}
+use Rattle.steps.specs.declared.list.HeaderAnswer.the-variants as H
+use Rattle.steps.specs.declared.list.CountAnswer.{CountAnswer}
+use Rattle.steps.specs.declared.list.CountAnswer.the-variants as C
+use Rattle.steps.specs.declared.list.Listed.{Listed}
+use Rattle.steps.specs.declared.list.ListRead.{ListRead}
+use Rattle.steps.specs.declared.list.ListRead.the-variants as L
+use Rattle.steps.specs.declared.step.Reading.{Reading as Told}
+use Rattle.steps.specs.Steps.{readingOnPaper}
+
+-- ---- the answers on paper
+
+abbrev pub headerOnPaper : HeaderAnswer → Answer Header
+headerOnPaper (H.Is h) = is h
+headerOnPaper H.NoMore = no-more
+headerOnPaper (H.Refused r) = refusal (refusalOnPaper r)
+
+abbrev pub countOnPaper : CountAnswer → Answer ℕ
+countOnPaper (C.Is n) = is n
+countOnPaper (C.Refused r) = refusal (refusalOnPaper r)
+
+-- ---- the walk that gathers both
+
+abbrev pub nothingListed : Listed
+nothingListed = record { count = 0; header = record { at = 0; len = 0; kind = Ethernet2 }; met = false }
+
+-- one header more: it is kept if its number is k
+abbrev pub keepOf : ℕ → Listed → Header → Listed
+keepOf k l h = record { count = l .count + 1; header = pick (eqb (l .count) k) h (l .header); met = pick (eqb (l .count) k) true (l .met) }
+
+pub data Lists : Type 0 where
+  lists : Listed → Lists
+  refused : Row → Lists
+
+abbrev pub listOnPaper : ListRead → Lists
+listOnPaper (L.Whole l) = lists l
+listOnPaper (L.Refused r) = refused (refusalOnPaper r)
+
+abbrev pub listWay : ℕ → Way Listed Lists
+listWay k = record { put = λ l e. keepOf k l (header e); done = λ l x. lists l; bad = λ l r. refused r; never = refused (row 0 (Of Ethernet2) 0 []) }
+
+-- the refusal r is that of a reading which is one
+abbrev pub ReadingShut : Refusal → Told → Type 0
+ReadingShut r d = (q : Row) (tags ips at : ℕ) → readingOnPaper d tags ips at ≡ refuses q → refusalOnPaper r ≡ q
