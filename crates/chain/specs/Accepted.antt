@@ -3,15 +3,15 @@ use Prim.Native.Nat.{ℕ}
 use mathlib.Core.Path.{_≡_, refl, sym, ap, _∙_, subst}
 use mathlib.Core.List.{List}
 use native.Mathlib.Omega.{arith}
-use Rattle.rules.specs.Place.{Stopped}
+use Rattle.rules.specs.Place.{Stopped, entryKind, endingOnPaper}
 use Rattle.rules.specs.Walk.{Trace, Entry}
 use Rattle.laws.specs.Gather.{gathered, listed}
-use Rattle.slicer.specs.declared.packet.Entry.{Entry as Given}
-use Rattle.slicer.specs.declared.packet.Ending.{Ending}
+use Rattle.rules.specs.declared.entry.Entry.{Entry as Given}
+use Rattle.rules.specs.declared.stop.Ending.{Ending}
 use Rattle.slicer.specs.declared.packet.Outcome.{Outcome}
 use Rattle.slicer.specs.declared.packet.Outcome.the-variants as O
 use Rattle.slicer.specs.declared.packet.SlicedPacket.{SlicedPacket}
-use Rattle.slicer.specs.Reply.{entryKind, endingOnPaper, outcomeOnPaper, packetOnPaper, nothing, Ended, Reply, sliceWay, acceptedBy, replyOf}
+use Rattle.slicer.specs.Reply.{outcomeOnPaper, packetOnPaper, nothing, Ended, Reply, sliceWay, acceptedBy, replyOf}
 use Rattle.slicer.specs.Reply as P
 use Rattle.chain.specs.Chain.{ChainOf}
 use Rattle.chain.specs.Walked.{Walked, whole-walk, broken-walk, walked, chain→slices}

@@ -4,12 +4,13 @@ use Prim.Native.Nat.{ℕ}
 use mathlib.Core.Path.{_≡_}
 use mathlib.Core.List.{List}
 use Rattle.rules.specs.Walk.{headerOf, countOf, slices}
-use Rattle.slicer.specs.declared.packet.Entry.{Entry}
+use Rattle.rules.specs.declared.entry.Entry.{Entry}
+use Rattle.rules.specs.Place.{entryKind}
 use Rattle.slicer.specs.declared.packet.SlicedPacket.{SlicedPacket}
-use Rattle.slicer.specs.declared.list.HeaderAnswer.{HeaderAnswer}
-use Rattle.slicer.specs.declared.list.CountAnswer.{CountAnswer}
-use Rattle.slicer.specs.Reply.{entryKind, packetOnPaper, replyOf}
-use Rattle.slicer.specs.Lists.{headerOnPaper, countOnPaper}
+use Rattle.steps.specs.declared.list.HeaderAnswer.{HeaderAnswer}
+use Rattle.steps.specs.declared.list.CountAnswer.{CountAnswer}
+use Rattle.slicer.specs.Reply.{packetOnPaper, replyOf}
+use Rattle.steps.specs.Lists.{headerOnPaper, countOnPaper}
 
 -- r is the answer of slice(s, entry)
 abbrev pub Sliced : Entry → List ℕ → SlicedPacket → Type 0

@@ -18,7 +18,7 @@ use Rattle.rules.specs.Rules.{tests, testsBy}
 use Rattle.rules.specs.Paper.{refusalOnPaper}
 use Rattle.rules.specs.Place.{bytes}
 use Rattle.rules.specs.Walk.{Entry}
-use Rattle.slicer.specs.declared.packet.Entry.{Entry as Given}
+use Rattle.rules.specs.declared.entry.Entry.{Entry as Given}
 use Rattle.chain.specs.Broken.{FirstFailed, this, later, Broken, fails, late-hop, more}
 use Rattle.chain.specs.Refused.{RefusedForAReason}
 

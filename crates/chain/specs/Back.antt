@@ -17,7 +17,7 @@ use Rattle.rules.specs.declared.stop.Stop.{Stop}
 use Rattle.rules.specs.declared.stop.Stop.the-variants as T
 use Rattle.rules.specs.Test.{pick, sourceNumber, Failure, short, other, Outcome, whole, failed}
 use Rattle.rules.specs.Paper.{stopNumber, faultOnPaper, refusalOnPaper}
-use Rattle.rules.specs.Place.{Stopped}
+use Rattle.rules.specs.Place.{Stopped, endingOnPaper}
 use Rattle.rules.specs.Walk.{Answer, is, no-more, refusal}
 use Rattle.headers.specs.declared.link.LinkRead.{LinkRead}
 use Rattle.headers.specs.declared.link.LinkRead.the-variants as HL
@@ -31,21 +31,21 @@ use Rattle.headers.specs.declared.transport.TransportHeader.{TransportHeader}
 use Rattle.headers.specs.declared.transport.TransportRead.{TransportRead}
 use Rattle.headers.specs.declared.transport.TransportRead.the-variants as HT
 use Rattle.headers.specs.Says.{linkOnPaper, ipOnPaper, extOnPaper, transportOnPaper}
-use Rattle.slicer.specs.declared.packet.Range.{Range}
-use Rattle.slicer.specs.declared.packet.Ending.{Ending}
+use Rattle.rules.specs.declared.place.Range.{Range}
+use Rattle.rules.specs.declared.stop.Ending.{Ending}
 use Rattle.slicer.specs.declared.packet.Outcome.{Outcome as Ends}
 use Rattle.slicer.specs.declared.packet.Outcome.the-variants as O
 use Rattle.slicer.specs.declared.packet.SlicedPacket.{SlicedPacket}
-use Rattle.slicer.specs.declared.list.HeaderAnswer.{HeaderAnswer}
-use Rattle.slicer.specs.declared.list.HeaderAnswer.the-variants as H
-use Rattle.slicer.specs.declared.list.CountAnswer.{CountAnswer}
-use Rattle.slicer.specs.declared.list.CountAnswer.the-variants as C
-use Rattle.slicer.specs.declared.place.Step.{Step}
-use Rattle.slicer.specs.declared.place.Step.the-variants as N
-use Rattle.slicer.specs.Reply.{Ended, accepted, refused, Reply, endingOnPaper, outcomeOnPaper, packetOnPaper}
-use Rattle.slicer.specs.Lists.{headerOnPaper, countOnPaper}
-use Rattle.slicer.specs.Places.{Stepped, stepOnPaper}
-use Rattle.slicer.specs.Places as P
+use Rattle.steps.specs.declared.list.HeaderAnswer.{HeaderAnswer}
+use Rattle.steps.specs.declared.list.HeaderAnswer.the-variants as H
+use Rattle.steps.specs.declared.list.CountAnswer.{CountAnswer}
+use Rattle.steps.specs.declared.list.CountAnswer.the-variants as C
+use Rattle.steps.specs.declared.place.Step.{Step}
+use Rattle.steps.specs.declared.place.Step.the-variants as N
+use Rattle.slicer.specs.Reply.{Ended, accepted, refused, Reply, outcomeOnPaper, packetOnPaper}
+use Rattle.steps.specs.Lists.{headerOnPaper, countOnPaper}
+use Rattle.steps.specs.Places.{Stepped, stepOnPaper}
+use Rattle.steps.specs.Places as P
 
 -- an answer a, read off what `paper` makes of it
 pub record Back {A B : Type 0} (paper : A → B) : Type 0 where

@@ -5,16 +5,16 @@ use mathlib.Core.List.{List}
 use lib.ListN.{length}
 use Rattle.rules.specs.declared.kind.Kind.{Kind}
 use Rattle.rules.specs.declared.place.Place.{Place}
-use Rattle.rules.specs.Place.{Found, next, bytes, outcome, read, start}
+use Rattle.rules.specs.Place.{Found, next, bytes, outcome, read, start, entryKind}
 use Rattle.rules.specs.Walk.{Trace, Entry, step, walk, trace, headerOf, countOf, slices}
 use Rattle.laws.specs.Gather.{gathered}
 use Rattle.laws.specs.Reads.{foundAt, Parts, parts}
 use Rattle.laws.specs.Walks.{step-same}
-use Rattle.slicer.specs.declared.packet.Entry.{Entry as Given}
+use Rattle.rules.specs.declared.entry.Entry.{Entry as Given}
 use Rattle.slicer.specs.declared.packet.SlicedPacket.{SlicedPacket}
-use Rattle.slicer.specs.declared.list.HeaderAnswer.{HeaderAnswer}
-use Rattle.slicer.specs.declared.list.CountAnswer.{CountAnswer}
-use Rattle.slicer.specs.Reply.{entryKind, nothing, sliceWay, replyOf}
+use Rattle.steps.specs.declared.list.HeaderAnswer.{HeaderAnswer}
+use Rattle.steps.specs.declared.list.CountAnswer.{CountAnswer}
+use Rattle.slicer.specs.Reply.{nothing, sliceWay, replyOf}
 use Rattle.chain.specs.Chain.{Stands, Leads}
 use Rattle.chain.specs.Walked.{stands, next-leads}
 use Rattle.chain.specs.Agree.{AgreeAt, same-deciding}

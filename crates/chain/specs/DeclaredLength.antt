@@ -10,14 +10,14 @@ use lib.ListN.{length}
 use Rattle.rules.specs.declared.kind.Kind.{Kind}
 use Rattle.rules.specs.declared.kind.Kind.the-variants.{Ethernet2, Vlan, Ipv4, Ipv6, HopByHop, Routing, Destination, Fragment, Auth, Udp, Tcp}
 use Rattle.rules.specs.declared.place.Place.{Place}
-use Rattle.rules.specs.Place.{start}
+use Rattle.rules.specs.Place.{start, entryKind}
 use Rattle.rules.specs.Walk.{Trace, accepted, refused, unfinished, Entry, header, is, nth, headerOf, countOf, slices}
 use Rattle.laws.specs.Gather.{Way, gathered, listed}
-use Rattle.slicer.specs.declared.packet.Entry.{Entry as Given}
+use Rattle.rules.specs.declared.entry.Entry.{Entry as Given}
 use Rattle.slicer.specs.declared.packet.SlicedPacket.{SlicedPacket}
-use Rattle.slicer.specs.declared.list.HeaderAnswer.{HeaderAnswer}
-use Rattle.slicer.specs.declared.list.CountAnswer.{CountAnswer}
-use Rattle.slicer.specs.Reply.{entryKind, packetOnPaper, replyOf, Parts, Reply, sliceWay, nothing, put}
+use Rattle.steps.specs.declared.list.HeaderAnswer.{HeaderAnswer}
+use Rattle.steps.specs.declared.list.CountAnswer.{CountAnswer}
+use Rattle.slicer.specs.Reply.{packetOnPaper, replyOf, Parts, Reply, sliceWay, nothing, put}
 use Rattle.chain.specs.Agree.{ending}
 use Rattle.chain.specs.Twins.{Links, Declares, shown, endingIn, declared-length}
 use Rattle.chain.specs.Answers.{Sliced, HeaderIs, CountIs}

@@ -19,7 +19,7 @@ use Rattle.rules.specs.Place.{Stopped, leaves, follow, followOf, bytes, outcome
 use Rattle.rules.specs.Walk.{walk, trace, slices}
 use Rattle.laws.specs.Gather.{gathered, listed}
 use Rattle.checksum.specs.Sum.{total, totals, fold, answer, noZero}
-use Rattle.slicer.specs.declared.packet.Entry.the-variants as E
+use Rattle.rules.specs.declared.entry.Entry.the-variants as E
 use Rattle.slicer.specs.declared.packet.SlicedPacket.{SlicedPacket}
 use Rattle.slicer.specs.Reply.{Ended, accepted, refused, Reply, slots, outcomeOnPaper, replyOf}
 use Rattle.chain.specs.Answers.{Sliced}

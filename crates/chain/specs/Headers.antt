@@ -8,16 +8,15 @@ use lib.ListN.{length}
 use Rattle.rules.specs.declared.kind.Kind.{Kind}
 use Rattle.rules.specs.declared.place.Header.{Header}
 use Rattle.rules.specs.declared.place.Place.{Place}
-use Rattle.rules.specs.Place.{Stopped, bytes}
+use Rattle.rules.specs.Place.{Stopped, bytes, entryKind}
 use Rattle.rules.specs.Walk.{Trace, Entry, header, Answer, is, no-more, refusal, nth, headerOf, countOf, slices}
 use Rattle.laws.specs.Kinds.{sized}
-use Rattle.slicer.specs.declared.packet.Entry.{Entry as Given}
-use Rattle.slicer.specs.declared.list.HeaderAnswer.{HeaderAnswer}
-use Rattle.slicer.specs.declared.list.HeaderAnswer.the-variants as H
-use Rattle.slicer.specs.declared.list.CountAnswer.{CountAnswer}
-use Rattle.slicer.specs.declared.list.CountAnswer.the-variants as C
-use Rattle.slicer.specs.Reply.{entryKind}
-use Rattle.slicer.specs.Lists.{headerOnPaper, countOnPaper}
+use Rattle.rules.specs.declared.entry.Entry.{Entry as Given}
+use Rattle.steps.specs.declared.list.HeaderAnswer.{HeaderAnswer}
+use Rattle.steps.specs.declared.list.HeaderAnswer.the-variants as H
+use Rattle.steps.specs.declared.list.CountAnswer.{CountAnswer}
+use Rattle.steps.specs.declared.list.CountAnswer.the-variants as C
+use Rattle.steps.specs.Lists.{headerOnPaper, countOnPaper}
 use Rattle.chain.specs.Chain.{entryAt, Stands, Leads, Chain, last, more}
 use Rattle.chain.specs.Accepted.{HasChain}
 use Rattle.chain.specs.Walked.{Walked, whole-walk, broken-walk, walked, chain→slices}

@@ -11,15 +11,15 @@ use Rattle.rules.specs.Test.{judge}
 use Rattle.rules.specs.Rules.{isTag, link, lengthOf, marksOf, namesOf, turnOf, payloadOf, seenBy, testsBy}
 use Rattle.rules.specs.Place.{Stopped, leaves, follow, followOf, bytes, outcome, read, start}
 use Rattle.rules.specs.Walk.{Trace, accepted, refused, Entry, walk, trace}
-use Rattle.slicer.specs.declared.packet.Entry.the-variants as E
-use Rattle.slicer.specs.declared.packet.Ending.{Ending}
+use Rattle.rules.specs.declared.entry.Entry.the-variants as E
+use Rattle.rules.specs.declared.stop.Ending.{Ending}
 use Rattle.slicer.specs.declared.packet.Outcome.{Outcome}
 use Rattle.slicer.specs.declared.packet.Outcome.the-variants as O
 use Rattle.slicer.specs.declared.packet.SlicedPacket.{SlicedPacket}
-use Rattle.slicer.specs.declared.list.HeaderAnswer.{HeaderAnswer}
-use Rattle.slicer.specs.declared.list.HeaderAnswer.the-variants as H
-use Rattle.slicer.specs.declared.list.CountAnswer.{CountAnswer}
-use Rattle.slicer.specs.declared.list.CountAnswer.the-variants as C
+use Rattle.steps.specs.declared.list.HeaderAnswer.{HeaderAnswer}
+use Rattle.steps.specs.declared.list.HeaderAnswer.the-variants as H
+use Rattle.steps.specs.declared.list.CountAnswer.{CountAnswer}
+use Rattle.steps.specs.declared.list.CountAnswer.the-variants as C
 use Rattle.chain.specs.Chain.{ChainOf}
 use Rattle.chain.specs.Walked.{Means, trace-means}
 use Rattle.chain.specs.OneChain.{not-both}

@@ -9,17 +9,18 @@ use Rattle.rules.specs.declared.refusal.Row.{Row}
 use Rattle.rules.specs.Paper.{refusalOnPaper}
 use Rattle.rules.specs.Walk.{Trace, Entry, header, is, no-more, refusal, nth, headerOf, countOf}
 use Rattle.laws.specs.Gather.{gathered}
-use Rattle.slicer.specs.declared.packet.Entry.{Entry as Given}
+use Rattle.rules.specs.declared.entry.Entry.{Entry as Given}
+use Rattle.rules.specs.Place.{entryKind}
 use Rattle.slicer.specs.declared.packet.Outcome.{Outcome}
 use Rattle.slicer.specs.declared.packet.Outcome.the-variants as O
 use Rattle.slicer.specs.declared.packet.SlicedPacket.{SlicedPacket}
-use Rattle.slicer.specs.declared.list.HeaderAnswer.{HeaderAnswer}
-use Rattle.slicer.specs.declared.list.HeaderAnswer.the-variants as H
-use Rattle.slicer.specs.declared.list.CountAnswer.{CountAnswer}
-use Rattle.slicer.specs.declared.list.CountAnswer.the-variants as C
-use Rattle.slicer.specs.Reply.{entryKind, outcomeOnPaper, packetOnPaper, nothing, Reply, sliceWay, refusedBy, replyOf}
+use Rattle.steps.specs.declared.list.HeaderAnswer.{HeaderAnswer}
+use Rattle.steps.specs.declared.list.HeaderAnswer.the-variants as H
+use Rattle.steps.specs.declared.list.CountAnswer.{CountAnswer}
+use Rattle.steps.specs.declared.list.CountAnswer.the-variants as C
+use Rattle.slicer.specs.Reply.{outcomeOnPaper, packetOnPaper, nothing, Reply, sliceWay, refusedBy, replyOf}
 use Rattle.slicer.specs.Reply as P
-use Rattle.slicer.specs.Lists.{headerOnPaper, countOnPaper}
+use Rattle.steps.specs.Lists.{headerOnPaper, countOnPaper}
 use Rattle.chain.specs.Broken.{BrokenOf}
 use Rattle.chain.specs.Walked.{Walked, whole-walk, broken-walk, walked, broken→slices}
 use Rattle.chain.specs.Answers.{Sliced, HeaderIs, CountIs}

@@ -11,19 +11,19 @@ use Rattle.rules.specs.declared.refusal.Fault.{Fault}
 use Rattle.rules.specs.declared.refusal.Refusal.{Refusal}
 use Rattle.rules.specs.Test.{placed}
 use Rattle.rules.specs.Paper.{faultOnPaper, refusalOnPaper}
-use Rattle.rules.specs.Place.{start}
+use Rattle.rules.specs.Place.{start, entryKind}
 use Rattle.headers.specs.declared.link.LinkRead.{LinkRead}
 use Rattle.headers.specs.declared.net.IpRead.{IpRead}
 use Rattle.headers.specs.declared.net.ExtRead.{ExtRead}
 use Rattle.headers.specs.declared.transport.TransportRead.{TransportRead}
 use Rattle.headers.specs.Says.{linkOnPaper, linkSays, ipOnPaper, ipSays, extOnPaper, extSays, rawSays, transportOnPaper, udpSays, tcpSays}
-use Rattle.slicer.specs.declared.packet.Entry.{Entry}
+use Rattle.rules.specs.declared.entry.Entry.{Entry}
 use Rattle.slicer.specs.declared.packet.SlicedPacket.{SlicedPacket}
-use Rattle.slicer.specs.declared.list.HeaderAnswer.{HeaderAnswer}
-use Rattle.slicer.specs.declared.list.CountAnswer.{CountAnswer}
-use Rattle.slicer.specs.declared.place.Step.{Step}
-use Rattle.slicer.specs.Reply.{entryKind, packetOnPaper, replyOf}
-use Rattle.slicer.specs.Places.{stepOnPaper, stepSays}
+use Rattle.steps.specs.declared.list.HeaderAnswer.{HeaderAnswer}
+use Rattle.steps.specs.declared.list.CountAnswer.{CountAnswer}
+use Rattle.steps.specs.declared.place.Step.{Step}
+use Rattle.slicer.specs.Reply.{packetOnPaper, replyOf}
+use Rattle.steps.specs.Places.{stepOnPaper, stepSays}
 use Rattle.checksum.specs.declared.Sum16BitWords.{Sum16BitWords}
 use Rattle.checksum.specs.Sum.{fold, totals, addSlice, answer, noZero}
 use Rattle.chain.specs.Answers.{Sliced, HeaderIs, CountIs}

@@ -3,15 +3,15 @@
 ghost use mathlib.Core.Path.{_≡_};
 ghost use Rattle.rules.specs.declared.refusal.Refusal.{Refusal};
 ghost use Rattle.slicer.specs.declared.packet.Outcome.the-variants as O;
-ghost use Rattle.slicer.specs.declared.list.HeaderAnswer.the-variants as HA;
-ghost use Rattle.slicer.specs.declared.list.CountAnswer.the-variants as CA;
+ghost use Rattle.steps.specs.declared.list.HeaderAnswer.the-variants as HA;
+ghost use Rattle.steps.specs.declared.list.CountAnswer.the-variants as CA;
 ghost use Rattle.chain.specs.Accepted.{AcceptedIffChain};
 ghost use Rattle.chain.specs.Headers.{HeadersInOrder, CountIsLength};
 ghost use Rattle.chain.specs.Refused.{RefusedForAReason};
-use slicer::CountAnswer;
-use slicer::Entry;
-use slicer::HeaderAnswer;
+use rules::Entry;
 use slicer::SlicedPacket;
+use steps::CountAnswer;
+use steps::HeaderAnswer;
 
 // Accepted exactly when there is a chain; refused exactly where the walk breaks.
 pub fn slice(s: &[u8], entry: Entry) -> SlicedPacket
@@ -27,7 +27,7 @@ pub fn header(s: &[u8], entry: Entry, k: usize) -> HeaderAnswer
     ensures listed { λ r. ⌜ HeadersInOrder entry (now (s .entry)) k r ⌝ }
     ensures refused { λ r. ⌜ RefusedForAReason entry (now (s .entry)) (λ (q : Refusal). r ≡ HA.Refused q) ⌝ }
 {
-    let listed = slicer::header(s, entry, k);
+    let listed = steps::header(s, entry, k);
     listed
 }
 
@@ -36,6 +36,6 @@ pub fn count(s: &[u8], entry: Entry) -> CountAnswer
     ensures counted { λ r. ⌜ CountIsLength entry (now (s .entry)) r ⌝ }
     ensures refused { λ r. ⌜ RefusedForAReason entry (now (s .entry)) (λ (q : Refusal). r ≡ CA.Refused q) ⌝ }
 {
-    let counted = slicer::count(s, entry);
+    let counted = steps::count(s, entry);
     counted
 }
