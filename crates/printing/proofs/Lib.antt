@@ -3,3 +3,4 @@ pub mod Pieces
 pub mod Decimals
 pub mod Valid
 pub mod Telling
+pub mod Replies

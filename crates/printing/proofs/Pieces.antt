@@ -32,8 +32,10 @@ module _ {t u o o₁ o₂ : List ℕ} {at r₁ r₂ : ℕ} where
     where
       same : length o₁ ≡ length o
       same = ap length (a .stored) ∙ length-sets o at t
+
       there : r₂ ≡ at + min (length (t ++ u)) (length o - at)
       there = let p = a .reached in let q = b .reached in let l = length-append t u in let e = same in omega arith
+
       go : (c : Bool) → leb (at + length t) (length o) ≡ c → sets o₁ r₁ u ≡ sets o at (t ++ u)
       go true e =
           let h = leb-true (at + length t) (length o) e in

@@ -71,9 +71,15 @@ pub record Telling (s o₀ wanted : List ℕ) (p : Place) (o : List ℕ) (at : �
   pub wrote : Wrote done o₀ 0 o at
   pub left : gather textWay done s p ≡ is wanted
 
-pub telling-first : (s o : List ℕ) (k : Kind) {p : Place} → Accepts (slices k s) → p ≡ start k s → Telling s o (textOf k s) p o 0
-unfolding gather slices
-telling-first s o k a e = rw e (record { valid = valid-first k s; done = []; wrote = wrote-none o 0; left = gathered-text a })
+-- the walk begins at p₀
+module _ (s : List ℕ) (k : Kind) {p₀ : Place} (e : p₀ ≡ start k s) where
+  pub telling-first : (o : List ℕ) → Accepts (slices k s) → Telling s o (text (trace s p₀)) p₀ o 0
+  unfolding gather slices
+  telling-first o a = rw e (record { valid = valid-first k s; done = []; wrote = wrote-none o 0; left = gathered-text a })
+
+  pub telling-all : {o o′ : List ℕ} {r : ℕ} → Wrote (text (trace s p₀)) o 0 o′ r → Wrote (textOf k s) o 0 o′ r
+  unfolding slices
+  telling-all w = rw e at w
 
 abbrev headerAt : Place → ℕ → Header
 headerAt p len = record { at = p .at; len = len; kind = p .kind }
@@ -100,16 +106,16 @@ module _ {s o₀ wanted : List ℕ} {p : Place} {o : List ℕ} {at : ℕ} (t : T
           done = t .done ++ headerLine (headerAt p len);
           wrote = wrote-then (t .wrote) w;
           left =
-            sym (rw (f .follows, f .long) at (gather-whole textWay (t .done) s p (f .whole))
-                ∙ rest-next textWay _ s q)
-            ∙ t .left;
+              sym (rw (f .follows, f .long) at (gather-whole textWay (t .done) s p (f .whole))
+              ∙ rest-next textWay _ s q)
+              ∙ t .left;
         }
 
   pub telling-last : {len : ℕ} {y : Ending} {o₁ o₂ : List ℕ} {r₁ r₂ : ℕ} → step ≡ S.Last len y → Wrote (headerLine (headerAt p len)) o at o₁ r₁ → Wrote (endingLines (endingOnPaper y)) o₁ r₁ o₂ r₂ → Wrote wanted o₀ 0 o₂ r₂
   telling-last {len} {y} {o₂ = o₂} {r₂ = r₂} i w v =
       let f = onward-last (read s p) (told ∙ ap stepOnPaper i) in
       let z : is ((t .done ++ headerLine (headerAt p len)) ++ endingLines (endingOnPaper y)) ≡ is wanted =
-        sym (rw (f .follows, f .long) at (gather-whole textWay (t .done) s p (f .whole)) ∙ rest-halt textWay _ s _) ∙ t .left in
+      sym (rw (f .follows, f .long) at (gather-whole textWay (t .done) s p (f .whole)) ∙ rest-halt textWay _ s _) ∙ t .left in
       let same : (t .done ++ headerLine (headerAt p len)) ++ endingLines (endingOnPaper y) ≡ wanted = cc in
       rw same at (wrote-then (wrote-then (t .wrote) w) v)
 

@@ -1,3 +1,4 @@
+-- `write::+digits` meets its contract. Assumes nothing.
 use Rattle.printing.proofs.Pieces.{wrote-then, wrote-length}
 use Rattle.printing.proofs.Decimals.{decimal-one, decimal-more}
 use native.Mathlib.Omega.{arith}
@@ -21,7 +22,6 @@ digits-at t = and 1 digits-kinds.ps (is 1 digits-kinds.ps μ-digits t) digits.Pr
 abbrev digits-below : ℕ → In 1 digits-kinds.ps
 digits-below t = and 1 digits-kinds.ps (falls 1 digits-kinds.ps _<_ μ-digits t) digits.Pre
 
--- src/write.rt:42:23
 digits-cast-last : (t : ℕ) → digits-lts.Need-cast-last (
   push-reads.Asked,
   push-reads.Learnt,
@@ -30,7 +30,6 @@ digits-cast-last : (t : ℕ) → digits-lts.Need-cast-last (
 ) (digits-at t) digits.Post
 digits-cast-last t c = search needs
 
--- src/write.rt:42:16
 digits-add-last : (t : ℕ) → digits-lts.Need-add-last (
   push-reads.Asked,
   push-reads.Learnt,
@@ -39,7 +38,6 @@ digits-add-last : (t : ℕ) → digits-lts.Need-add-last (
 ) (digits-at t) digits.Post
 digits-add-last t c = search needs
 
--- src/write.rt:44:9
 digits-push-requires : (t : ℕ) → digits-lts.Need-push-requires (
   push-reads.Asked,
   push-reads.Learnt,
@@ -48,7 +46,6 @@ digits-push-requires : (t : ℕ) → digits-lts.Need-push-requires (
 ) (digits-at t) digits.Post
 digits-push-requires t c κs = search needs
 
--- src/write.rt:44:9
 digits-same-length : (t : ℕ) → digits-lts.Need-same-length (
   push-reads.Asked,
   push-reads.Learnt,
@@ -57,7 +54,6 @@ digits-same-length : (t : ℕ) → digits-lts.Need-same-length (
 ) (digits-at t) digits.Post
 digits-same-length t c = search needs
 
--- src/write.rt:44:9
 digits-returns : (t : ℕ) → digits-lts.Need-returns (
   push-reads.Asked,
   push-reads.Learnt,
@@ -66,7 +62,6 @@ digits-returns : (t : ℕ) → digits-lts.Need-returns (
 ) (digits-at t) digits.Post
 digits-returns t c = rw (decimal-one (c .before .before .before .before .before .before .args .n) (c .before .before .before .before .if1 .taken)) (c .before .before .push .ensures)
 
--- src/write.rt:46:9
 digits-digits-requires : (t : ℕ) → digits-lts.Need-digits-requires (
   push-reads.Asked,
   push-reads.Learnt,
@@ -75,7 +70,6 @@ digits-digits-requires : (t : ℕ) → digits-lts.Need-digits-requires (
 ) (digits-at t) digits.Post
 digits-digits-requires t c κs = search needs
 
--- src/write.rt:47:5
 digits-push-requires-2 : (t : ℕ) → digits-lts.Need-push-requires-2 (
   push-reads.Asked,
   push-reads.Learnt,
@@ -84,7 +78,6 @@ digits-push-requires-2 : (t : ℕ) → digits-lts.Need-push-requires-2 (
 ) (digits-at t) digits.Post
 digits-push-requires-2 t c κs = search needs
 
--- src/write.rt:39:1
 digits-same-length-2 : (t : ℕ) → digits-lts.Need-same-length-2 (
   push-reads.Asked,
   push-reads.Learnt,
@@ -93,7 +86,6 @@ digits-same-length-2 : (t : ℕ) → digits-lts.Need-same-length-2 (
 ) (digits-at t) digits.Post
 digits-same-length-2 t c = search needs
 
--- src/write.rt:39:1
 digits-returns-2 : (t : ℕ) → digits-lts.Need-returns-2 (
   push-reads.Asked,
   push-reads.Learnt,

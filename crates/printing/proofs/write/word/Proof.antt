@@ -1,3 +1,4 @@
+-- `write::word` meets its contract. Assumes nothing.
 use mathlib.Core.Path.{_∙_}
 use Prim.Native.Nat.{_-_, _≤_}
 use lib.ListN.{length, take}
@@ -7,9 +8,6 @@ use Rattle.printing.proofs.Pieces.{wrote-none, wrote-more, wrote-ended,
 use borrow.Author.Needs.{needs}
 use Rattle.printing.proofs.write.word.Statement.{statement}
 use Rattle.printing.proofs.write.word.Tie as tie
-use Rattle.printing.proofs.write.word.Reads as reads
-use Rattle.printing.proofs.write.word.Lts as lts
-use Rattle.printing.proofs.write.push.Reads as push-reads
 
 abbrev Inv-loop : tie.InvT-loop
 Inv-loop out₀ at text behind past₀ i₀ out past i = (i ≤ length text) × Wrote (take i text) out₀ at out past
@@ -17,39 +15,30 @@ Inv-loop out₀ at text behind past₀ i₀ out past i = (i ≤ length text) × 
 abbrev μ-loop : tie.MeasureT-loop
 μ-loop out₀ at text behind past₀ i₀ out past i = length text - i
 
--- src/write.rt:31:5
 loop-holds : tie.Need-loop-holds Inv-loop μ-loop
 loop-holds c = (omega arith, wrote-none _ _)
 
--- src/write.rt:32:32
 shared-slice-read-push : tie.Need-shared-slice-read-push Inv-loop μ-loop
 shared-slice-read-push c = search needs
 
--- src/write.rt:32:9
 push-requires : tie.Need-push-requires Inv-loop μ-loop
 push-requires c κs = search needs
 
--- src/write.rt:33:9
 add-i : tie.Need-add-i Inv-loop μ-loop
 add-i c = search needs
 
--- src/write.rt:31:5
 loop-less : tie.Need-loop-less Inv-loop μ-loop
 loop-less c = search needs
 
--- src/write.rt:31:5
 loop-again : tie.Need-loop-again Inv-loop μ-loop
 loop-again c = (omega arith, wrote-more _ _ (c .before .before .before .before .before .before .loop .inv .1) (c .before .before .before .before .before .loop-test .taken) (c .before .before .push .ensures))
 
--- src/write.rt:35:5
 push-requires-2 : tie.Need-push-requires-2 Inv-loop μ-loop
 push-requires-2 c κs = search needs
 
--- src/write.rt:26:1
 same-length : tie.Need-same-length Inv-loop μ-loop
 same-length c = wrote-length (c .before .before .push2 .ensures) ∙ wrote-length (c .before .before .before .before .before .loop .inv .1)
 
--- src/write.rt:26:1
 returns : tie.Need-returns Inv-loop μ-loop
 returns c = wrote-ended _ _ (c .before .before .before .before .before .loop .inv .1) (c .before .before .before .before .loop-test .left) (c .before .before .push2 .ensures)
 
