@@ -14,20 +14,19 @@ use Rattle.laws.specs.Gather.{gathered}
 use Rattle.laws.specs.Walks.{finished}
 use Rattle.slicer.specs.declared.packet.Outcome.{Outcome}
 use Rattle.slicer.specs.declared.packet.Outcome.the-variants as O
-use Rattle.slicer.specs.declared.packet.SlicedPacket.{SlicedPacket}
-use Rattle.slicer.specs.Reply.{Reply, Ended, accepted as whole, refused as shut, nothing, sliceWay, replyOf, outcomeOnPaper, packetOnPaper}
+use Rattle.slicer.specs.Reply.{Ended, accepted as whole, refused as shut, nothing, sliceWay, replyOf, outcomeOnPaper}
 use Rattle.printing.specs.Text.{refusedLine, text, textOf, Accepts, accepts}
 
 -- how the reply to a walk ends
 abbrev endedBy : Trace Entry → Ended
 endedBy t = gathered sliceWay nothing t .ended
 
-module _ (s : List ℕ) (k : Kind) (p : SlicedPacket) (e : packetOnPaper p ≡ replyOf k s) where
-  ends : outcomeOnPaper (p .outcome) ≡ endedBy (slices k s)
+module _ (s : List ℕ) (k : Kind) (o : Outcome) (e : outcomeOnPaper o ≡ replyOf k s .ended) where
+  ends : outcomeOnPaper o ≡ endedBy (slices k s)
   unfolding replyOf
-  ends = ap (λ (r : Reply). r .ended) e
+  ends = e
 
-  pub reply-accepts : {x : Ending} → p .outcome ≡ O.Accepted x → Accepts (slices k s)
+  pub reply-accepts : {x : Ending} → o ≡ O.Accepted x → Accepts (slices k s)
   unfolding gathered
   reply-accepts {x} i = go (slices k s) (sym (ap outcomeOnPaper i) ∙ ends)
     where
@@ -36,7 +35,7 @@ module _ (s : List ℕ) (k : Kind) (p : SlicedPacket) (e : packetOnPaper p ≡ r
       go (refused hs r) f = absurd (let z : _≡_ {A = ℕ} 0 1 = cc in omega arith)
       go unfinished f = absurd (let z : _≡_ {A = ℕ} 0 1 = cc in omega arith)
 
-  pub reply-refuses : {q : Refusal} → p .outcome ≡ O.Refused q → refusedLine (refusalOnPaper q) ≡ textOf k s
+  pub reply-refuses : {q : Refusal} → o ≡ O.Refused q → refusedLine (refusalOnPaper q) ≡ textOf k s
   unfolding gathered text slices
   reply-refuses {q} i = go (slices k s) (finished s (start k s)) (sym (ap outcomeOnPaper i) ∙ ends)
     where

@@ -4,14 +4,13 @@ use mathlib.Core.Path.{_≡_, refl, sym, ap, _∙_}
 use mathlib.Core.List.{List, [], _∷_, _++_, append-assoc, append-nil}
 use native.Mathlib.Omega.{arith}
 use Rattle.rules.specs.declared.kind.Kind.{Kind}
-use Rattle.rules.specs.declared.place.Header.{Header}
 use Rattle.rules.specs.declared.place.Place.{Place}
 use Rattle.rules.specs.declared.refusal.Refusal.{Refusal}
 use Rattle.rules.specs.declared.refusal.Row.{Row}
 use Rattle.rules.specs.declared.stop.Ending.{Ending}
 use Rattle.rules.specs.Paper.{refusalOnPaper}
 use Rattle.rules.specs.Place.{Stopped, endingOnPaper, Follow, next, halt, wrong, Found, Reading, reads, refuses, read, start}
-use Rattle.rules.specs.Walk.{Trace, accepted, refused, unfinished, Entry, entry, header, Answer, is, no-more, refusal, trace, slices}
+use Rattle.rules.specs.Walk.{Trace, accepted, refused, unfinished, Entry, entry, Answer, is, no-more, refusal, trace, slices}
 use Rattle.laws.specs.Gather.{Way, listed, gathered, gather, rest-next, rest-halt, rest-wrong, gather-whole, gather-refused}
 use Rattle.laws.specs.Reads.{goes}
 use Rattle.steps.specs.declared.place.Step.{Step}
@@ -25,12 +24,12 @@ use Rattle.printing.proofs.Valid.{Valid, says, valid-first, valid-next}
 -- ---- an accepted frame's text, gathered from its headers
 
 abbrev textWay : Way (List ℕ) (Answer (List ℕ))
-textWay = record { put = λ t e. t ++ headerLine (header e); done = λ t x. is (t ++ endingLines x); bad = λ t r. refusal r; never = no-more }
+textWay = record { put = λ t e. t ++ headerLine (e .kind) (e .at) (e .len); done = λ t x. is (t ++ endingLines x); bad = λ t r. refusal r; never = no-more }
 
 listed-lines : (t : List ℕ) (hs : List Entry) → listed textWay t hs ≡ t ++ headerLines hs
 unfolding listed headerLines
 listed-lines t [] = sym (append-nil t)
-listed-lines t (e ∷ es) = listed-lines (t ++ headerLine (header e)) es ∙ append-assoc t (headerLine (header e)) (headerLines es)
+listed-lines t (e ∷ es) = listed-lines (t ++ headerLine (e .kind) (e .at) (e .len)) es ∙ append-assoc t (headerLine (e .kind) (e .at) (e .len)) (headerLines es)
 
 gathered-text : {t : Trace Entry} → Accepts t → gathered textWay [] t ≡ is (text t)
 unfolding gathered text
@@ -81,9 +80,6 @@ module _ (s : List ℕ) (k : Kind) {p₀ : Place} (e : p₀ ≡ start k s) where
   unfolding slices
   telling-all w = rw e at w
 
-abbrev headerAt : Place → ℕ → Header
-headerAt p len = record { at = p .at; len = len; kind = p .kind }
-
 module _ {s o₀ wanted : List ℕ} {p : Place} {o : List ℕ} {at : ℕ} (t : Telling s o₀ wanted p o at) (step : Step) (e : stepOnPaper step ≡ stepSays s p) where
   told : steps (read s p) ≡ stepOnPaper step
   told = sym (e ∙ says (t .valid))
@@ -98,12 +94,12 @@ module _ {s o₀ wanted : List ℕ} {p : Place} {o : List ℕ} {at : ℕ} (t : T
         let z = goes s p (f .whole) (f .follows) in
         omega (arith, z .begins, z .some, z .room, z .inside)
 
-    pub telling-on : {o₁ : List ℕ} {r : ℕ} → Wrote (headerLine (headerAt p len)) o at o₁ r → Telling s o₀ wanted q o₁ r
+    pub telling-on : {o₁ : List ℕ} {r : ℕ} → Wrote (headerLine (p .kind) (p .at) len) o at o₁ r → Telling s o₀ wanted q o₁ r
     telling-on w =
         let f = further in
         record {
           valid = valid-next (t .valid) (f .whole) (f .follows);
-          done = t .done ++ headerLine (headerAt p len);
+          done = t .done ++ headerLine (p .kind) (p .at) len;
           wrote = wrote-then (t .wrote) w;
           left =
               sym (rw (f .follows, f .long) at (gather-whole textWay (t .done) s p (f .whole))
@@ -111,12 +107,12 @@ module _ {s o₀ wanted : List ℕ} {p : Place} {o : List ℕ} {at : ℕ} (t : T
               ∙ t .left;
         }
 
-  pub telling-last : {len : ℕ} {y : Ending} {o₁ o₂ : List ℕ} {r₁ r₂ : ℕ} → step ≡ S.Last len y → Wrote (headerLine (headerAt p len)) o at o₁ r₁ → Wrote (endingLines (endingOnPaper y)) o₁ r₁ o₂ r₂ → Wrote wanted o₀ 0 o₂ r₂
+  pub telling-last : {len : ℕ} {y : Ending} {o₁ o₂ : List ℕ} {r₁ r₂ : ℕ} → step ≡ S.Last len y → Wrote (headerLine (p .kind) (p .at) len) o at o₁ r₁ → Wrote (endingLines (endingOnPaper y)) o₁ r₁ o₂ r₂ → Wrote wanted o₀ 0 o₂ r₂
   telling-last {len} {y} {o₂ = o₂} {r₂ = r₂} i w v =
       let f = onward-last (read s p) (told ∙ ap stepOnPaper i) in
-      let z : is ((t .done ++ headerLine (headerAt p len)) ++ endingLines (endingOnPaper y)) ≡ is wanted =
+      let z : is ((t .done ++ headerLine (p .kind) (p .at) len) ++ endingLines (endingOnPaper y)) ≡ is wanted =
       sym (rw (f .follows, f .long) at (gather-whole textWay (t .done) s p (f .whole)) ∙ rest-halt textWay _ s _) ∙ t .left in
-      let same : (t .done ++ headerLine (headerAt p len)) ++ endingLines (endingOnPaper y) ≡ wanted = cc in
+      let same : (t .done ++ headerLine (p .kind) (p .at) len) ++ endingLines (endingOnPaper y) ≡ wanted = cc in
       rw same at (wrote-then (wrote-then (t .wrote) w) v)
 
   -- an accepted frame's walk meets neither a refusal nor a place that is none

@@ -9,13 +9,12 @@ use Rattle.rules.specs.declared.kind.Kind.{Kind}
 use Rattle.rules.specs.declared.kind.Kind.the-variants.{Ethernet2, Vlan, Ipv4, Ipv6, HopByHop, Routing, Destination, Fragment, Auth, Udp, Tcp}
 use Rattle.rules.specs.declared.kind.Layer.{Layer}
 use Rattle.rules.specs.declared.kind.Layer.the-variants.{Of, Ipv4Packet, Ipv6Packet, UdpPayload}
-use Rattle.rules.specs.declared.place.Header.{Header}
 use Rattle.rules.specs.declared.refusal.Row.{Row}
 use Rattle.rules.specs.Numbers.{tooShort, hopByHopNotAtStart, authLengthZero}
 use Rattle.rules.specs.Test.{pick}
 use Rattle.rules.specs.Rules.{isOneOf}
 use Rattle.rules.specs.Place.{Stopped}
-use Rattle.rules.specs.Walk.{Trace, accepted, refused, unfinished, Entry, header, slices}
+use Rattle.rules.specs.Walk.{Trace, accepted, refused, unfinished, Entry, slices}
 
 -- ---- words
 
@@ -78,12 +77,12 @@ sourceName n = pick (eqb n 1) (ascii "slice") (pick (eqb n 2) (ascii "ipv4") (pi
 -- ---- lines
 
 -- `NAME OFFSET LENGTH`
-unfoldable pub headerLine : Header → List ℕ
-headerLine h = line (kindName (h .kind) ∷ decimal (h .at) ∷ decimal (h .len) ∷ [])
+unfoldable pub headerLine : Kind → (offset length : ℕ) → List ℕ
+headerLine k offset length = line (kindName k ∷ decimal offset ∷ decimal length ∷ [])
 
 unfoldable pub headerLines : List Entry → List ℕ
 headerLines [] = []
-headerLines (e ∷ es) = headerLine (header e) ++ headerLines es
+headerLines (e ∷ es) = headerLine (e .kind) (e .at) (e .len) ++ headerLines es
 
 -- `payload OFFSET LENGTH` and `stop N`
 unfoldable pub endingLines : Stopped → List ℕ

@@ -3,13 +3,13 @@ ghost use mathlib.Core.Path.{_≡_};
 ghost use lib.ListN.{length};
 ghost use Rattle.rules.specs.Place.{entryKind};
 ghost use Rattle.rules.specs.Walk.{slices};
+ghost use Rattle.slicer.specs.Reply.{outcomeOnPaper, replyOf};
 ghost use Rattle.printing.specs.Text.{textOf, Accepts};
 ghost use Rattle.printing.specs.Put.{put, reach, Wrote};
 use line::ending_lines;
 use line::header_line;
 use line::refused_line;
 use rules::Entry;
-use rules::Header;
 use slicer::Outcome;
 use slicer::slice;
 use steps::Step;
@@ -34,25 +34,15 @@ fn accepted_lines(out: &mut [u8], s: &[u8], entry: Entry) -> usize
                 len,
                 place: following,
             } => {
-                let header = Header {
-                    at: place.at,
-                    len,
-                    kind,
-                };
-                at = header_line(out, at, header);
+                at = header_line(out, at, kind, place.at, len);
                 place = following;
             }
             Step::Last { len, ending } => {
-                let header = Header {
-                    at: place.at,
-                    len,
-                    kind,
-                };
-                let past = header_line(out, at, header);
+                let past = header_line(out, at, kind, place.at, len);
                 return ending_lines(out, past, ending);
             }
             // An accepted frame has neither of these.
-            Step::Refused(_refusal) => {
+            Step::Refused(_) => {
                 return at;
             }
             Step::NotAPlace => {
@@ -62,6 +52,14 @@ fn accepted_lines(out: &mut [u8], s: &[u8], entry: Entry) -> usize
     }
 }
 
+// How the frame's reply ends.
+fn outcome(s: &[u8], entry: Entry) -> Outcome
+    ensures { λ r. ⌜ outcomeOnPaper r ≡ replyOf (entryKind entry) (now (s .entry)) .ended ⌝ }
+{
+    let reply = slice(s, entry);
+    reply.outcome
+}
+
 // Writes the text of a frame into `out` as far as `out` reaches, and answers how many bytes it wrote. A refused frame
 // prints its refusal alone, so the frame is sliced before any header is printed.
 pub fn print(s: &[u8], entry: Entry, out: &mut [u8]) -> usize
@@ -69,10 +67,9 @@ pub fn print(s: &[u8], entry: Entry, out: &mut [u8]) -> usize
     ensures written { λ r. ⌜ r ≡ reach (textOf (entryKind entry) (now (s .entry))) (now (out .entry)) ⌝ }
     ensures unwritten { λ r. ⌜ now (s .exit) ≡ now (s .entry) ⌝ }
 {
-    let reply = slice(s, entry);
-    let outcome = reply.outcome;
-    match outcome {
-        Outcome::Accepted(_ending) => accepted_lines(out, s, entry),
-        Outcome::Refused(refusal) => refused_line(out, 0, refusal.row()),
+    let ended = outcome(s, entry);
+    match ended {
+        Outcome::Accepted(_) => accepted_lines(out, s, entry),
+        Outcome::Refused(refusal) => refused_line(out, 0, refusal),
     }
 }

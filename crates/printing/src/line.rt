@@ -1,5 +1,6 @@
 // The lines of a reply, and the names in them.
 ghost use mathlib.Core.List.{_∷_};
+ghost use Rattle.rules.specs.Paper.{refusalOnPaper};
 ghost use Rattle.rules.specs.Place.{endingOnPaper};
 ghost use Rattle.printing.specs.Text.{
   space,
@@ -21,9 +22,9 @@ use crate::write::SPACE;
 use crate::write::number;
 use crate::write::word;
 use rules::Ending;
-use rules::Header;
 use rules::Kind;
 use rules::Layer;
+use rules::Refusal;
 use rules::Row;
 
 fn kind_name(out: &mut [u8], at: usize, kind: Kind) -> usize
@@ -71,13 +72,12 @@ fn source_name(out: &mut [u8], at: usize, source: usize) -> usize
     word(out, at, b"udp", NEWLINE)
 }
 
-pub fn header_line(out: &mut [u8], at: usize, header: Header) -> usize
-    ensures { λ r. ⌜ Wrote (headerLine header) (now (out .entry)) at (now (out .exit)) r ⌝ }
+pub fn header_line(out: &mut [u8], at: usize, kind: Kind, offset: usize, len: usize) -> usize
+    ensures { λ r. ⌜ Wrote (headerLine kind offset len) (now (out .entry)) at (now (out .exit)) r ⌝ }
 {
-    let kind = header.kind;
     let named = kind_name(out, at, kind);
-    let placed = number(out, named, header.at, SPACE);
-    number(out, placed, header.len, NEWLINE)
+    let placed = number(out, named, offset, SPACE);
+    number(out, placed, len, NEWLINE)
 }
 
 pub fn ending_lines(out: &mut [u8], at: usize, ending: Ending) -> usize
@@ -123,9 +123,10 @@ fn placed(out: &mut [u8], at: usize, row: Row) -> usize
     number(out, past, values[0], NEWLINE)
 }
 
-pub fn refused_line(out: &mut [u8], at: usize, row: Row) -> usize
-    ensures { λ r. ⌜ Wrote (refusedLine row) (now (out .entry)) at (now (out .exit)) r ⌝ }
+pub fn refused_line(out: &mut [u8], at: usize, refusal: Refusal) -> usize
+    ensures { λ r. ⌜ Wrote (refusedLine (refusalOnPaper refusal)) (now (out .entry)) at (now (out .exit)) r ⌝ }
 {
+    let row = refusal.row();
     let layer = row.layer;
     let told = word(out, at, b"refused", SPACE);
     let numbered = number(out, told, row.number, SPACE);

@@ -51,23 +51,23 @@ same-length c = wrote-length (c .before .before .ending-lines .ensures) ∙ wrot
 returns : tie.Need-returns Inv-loop μ-loop
 returns c = telling-all _ _ (c .before .before .before .before .before .before .before .before .before .before .before .before .before .first .ensures) (telling-last (c .before .before .before .before .before .before .before .before .before .before .before .before .loop .inv) _ (c .before .before .before .before .before .before .before .before .before .before .before .next .ensures .0) (c .before .before .before .before .before .before .before .before .before .step2 .given .1) (c .before .before .before .before .before .before .header-line2 .ensures) (c .before .before .ending-lines .ensures))
 
-enum-known-step-3 : tie.Need-enum-known-step-3 Inv-loop μ-loop
-enum-known-step-3 c = search needs
-
-same-length-2 : tie.Need-same-length-2 Inv-loop μ-loop
-same-length-2 c = wrote-length (c .before .before .before .before .loop .inv .wrote)
-
-returns-2 : tie.Need-returns-2 Inv-loop μ-loop
-returns-2 c = absurd (telling-refused (c .before .before .before .before .loop .inv) _ (c .before .before .before .next .ensures .0) (c .before .step3 .given .1))
-
 enum-told : tie.Need-enum-told Inv-loop μ-loop
 enum-told c = search needs
+
+same-length-2 : tie.Need-same-length-2 Inv-loop μ-loop
+same-length-2 c = wrote-length (c .before .before .before .loop .inv .wrote)
+
+returns-2 : tie.Need-returns-2 Inv-loop μ-loop
+returns-2 c = absurd (telling-refused (c .before .before .before .loop .inv) _ (c .before .before .next .ensures .0) (c .enum-told .given .1))
+
+enum-told-2 : tie.Need-enum-told-2 Inv-loop μ-loop
+enum-told-2 c = search needs
 
 same-length-3 : tie.Need-same-length-3 Inv-loop μ-loop
 same-length-3 c = wrote-length (c .before .before .before .loop .inv .wrote)
 
 returns-3 : tie.Need-returns-3 Inv-loop μ-loop
-returns-3 c = absurd (telling-no-place (c .before .before .before .loop .inv) _ (c .before .before .next .ensures .0) (c .enum-told .given .1))
+returns-3 c = absurd (telling-no-place (c .before .before .before .loop .inv) _ (c .before .before .next .ensures .0) (c .enum-told2 .given .1))
 
 pub accepted-lines-spec : {M : Type 1} → statement M
 accepted-lines-spec =
@@ -87,9 +87,9 @@ accepted-lines-spec =
     ending-lines-requires
     same-length
     returns
-    enum-known-step-3
+    enum-told
     same-length-2
     returns-2
-    enum-told
+    enum-told-2
     same-length-3
     returns-3)

@@ -1,25 +1,22 @@
 -- `print` meets its contract. Assumes nothing.
-use Rattle.printing.proofs.Replies.{reply-accepts, reply-refuses}
-use Rattle.printing.proofs.Pieces.{wrote-all}
 use mathlib.Core.Path.{refl}
 use borrow.Author.Needs.{needs}
+use Rattle.printing.proofs.Pieces.{wrote-all}
+use Rattle.printing.proofs.Replies.{reply-accepts, reply-refuses}
 use Rattle.printing.proofs.print.Statement.{statement}
 use Rattle.printing.proofs.print.Tie as tie
 
-slice-requires : tie.Need-slice-requires
-slice-requires c κs = search needs
+outcome-requires : tie.Need-outcome-requires
+outcome-requires c κs = search needs
 
-enum-known-outcome : tie.Need-enum-known-outcome
-enum-known-outcome c = search needs
+enum-told : tie.Need-enum-told
+enum-told c = search needs
 
 accepted-lines-requires : tie.Need-accepted-lines-requires
-accepted-lines-requires c κs = reply-accepts _ _ (c .before .before .before .before .slice .result) (c .before .before .before .before .slice .ensures .0) (c .before .before .outcome .given .1)
+accepted-lines-requires c κs = reply-accepts _ _ (c .before .before .before .outcome .result) (c .before .before .before .outcome .ensures) (c .before .enum-told .given .1)
 
-enum-known-outcome-2 : tie.Need-enum-known-outcome-2
-enum-known-outcome-2 c = search needs
-
-row-requires : tie.Need-row-requires
-row-requires c κs = search needs
+enum-known-ended : tie.Need-enum-known-ended
+enum-known-ended c = search needs
 
 refused-line-requires : tie.Need-refused-line-requires
 refused-line-requires c κs = search needs
@@ -34,17 +31,16 @@ same-length-2 : tie.Need-same-length-2
 same-length-2 c = search needs
 
 returns-2 : tie.Need-returns-2
-returns-2 c = let z = wrote-all (rw (c .before .before .before .row .ensures, reply-refuses _ _ (c .before .before .before .before .before .before .before .before .slice .result) (c .before .before .before .before .before .before .before .before .slice .ensures .0) (c .before .before .before .before .before .before .outcome2 .given .1)) at (c .before .before .refused-line .ensures)) in (z .0, (z .1, refl))
+returns-2 c = let z = wrote-all (rw (reply-refuses _ _ (c .before .before .before .before .before .before .before .outcome .result) (c .before .before .before .before .before .before .before .outcome .ensures) (c .before .before .before .before .before .ended .given .1)) at (c .before .before .refused-line .ensures)) in (z .0, (z .1, refl))
 
 pub print-spec : {M : Type 1} → statement M
 print-spec =
     tie.close
     (tie.spec
-    slice-requires
-    enum-known-outcome
+    outcome-requires
+    enum-told
     accepted-lines-requires
-    enum-known-outcome-2
-    row-requires
+    enum-known-ended
     refused-line-requires
     same-length
     returns
