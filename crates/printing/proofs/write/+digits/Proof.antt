@@ -1,6 +1,6 @@
 -- `write::+digits` meets its contract. Assumes nothing.
 use Rattle.printing.proofs.Pieces.{wrote-then, wrote-length}
-use Rattle.printing.proofs.Decimals.{decimal-one, decimal-more}
+use Rattle.printing.specs.Decimals.{decimal-one, decimal-more}
 use native.Mathlib.Omega.{arith}
 use borrow.Author.Needs.{needs}
 use Prim.Native.Nat.{ℕ, _<_}
