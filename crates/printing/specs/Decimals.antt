@@ -22,9 +22,9 @@ enough (suc k) (suc m) n a b = go (ltb n 10) refl (enough k m (n / 10))
         let z = ltb-false n 10 e in
         ap (λ (l : List ℕ). l ++ (digit (n % 10) ∷ [])) (rec (omega arith) (omega arith))
 
-pub decimal-one : (n : ℕ) → n < 10 → decimal n ≡ digit (n % 10) ∷ []
+pub decimal-one : (n : ℕ) → n < 10 → decimal n ≡ digit n ∷ []
 unfolding decimal digits
-decimal-one n h = rw (lt-ltb n 10 h) (ap (λ (d : ℕ). digit d ∷ []) (omega arith))
+decimal-one n h = rw (lt-ltb n 10 h) refl
 
 pub decimal-more : (n : ℕ) → 10 ≤ n → decimal n ≡ decimal (n / 10) ++ (digit (n % 10) ∷ [])
 unfolding decimal digits

@@ -34,15 +34,17 @@ pub fn word(out: &mut [u8], at: usize, text: &[u8], behind: u8) -> usize
     push(out, past, behind)
 }
 
-// The highest digit comes first, so what stands before the last digit is written before it.
+// A number in decimal. What stands before its last digit is a number itself, and is written first.
 fn digits(out: &mut [u8], at: usize, n: usize) -> usize
     ensures { λ r. ⌜ Wrote (decimal n) (now (out .entry)) at (now (out .exit)) r ⌝ }
 {
-    let last = ZERO + (n % 10) as u8;
     if n < 10 {
-        return push(out, at, last);
+        let only = ZERO + n as u8;
+        return push(out, at, only);
     }
-    let past = digits(out, at, n / 10);
+    let before = n / 10;
+    let last = ZERO + (n % 10) as u8;
+    let past = digits(out, at, before);
     push(out, past, last)
 }
 
