@@ -28,18 +28,12 @@ fn word_of(high: u8, low: u8) -> usize {
     high as usize * 256 + low as usize
 }
 
-fn agrees(frame: &[u8], entry: Entry, answer: &[u8]) -> bool {
-    let mut text = [0u8; 4096];
-    let n = printing::print(frame, entry, &mut text);
-    check::same(&text[..n], answer)
-}
-
 // An entry that is none of the three makes a case that differs: the other slicer wrote no such case.
 fn same_at(number: u8, frame: &[u8], answer: &[u8]) -> bool {
     match number {
-        1 => agrees(frame, Entry::Ethernet, answer),
-        2 => agrees(frame, Entry::Ipv4, answer),
-        3 => agrees(frame, Entry::Ipv6, answer),
+        1 => agreeing::agrees(frame, Entry::Ethernet, answer),
+        2 => agreeing::agrees(frame, Entry::Ipv4, answer),
+        3 => agreeing::agrees(frame, Entry::Ipv6, answer),
         _ => false,
     }
 }
