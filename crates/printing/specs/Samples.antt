@@ -8,7 +8,7 @@ use Rattle.rules.specs.Test.{judge}
 use Rattle.rules.specs.Rules.{isTag, link, transport, chain4, lengthOf, declaredOf, marksOf, namesOf, turnOf, payloadOf, seenBy, testsBy}
 use Rattle.rules.specs.Place.{leaves, follow, followOf, bytes, outcome, read, start}
 use Rattle.rules.specs.Walk.{walk, trace, slices}
-use Rattle.printing.specs.Text.{ascii, digits, decimal, headerLine, headerLines, endingLines, refusedLine, text, textOf}
+use Rattle.printing.specs.Text.{ascii, digits, decimal, headerLine, headerLines, payloadLine, stopLine, endingLines, refusedLine, text, textOf}
 
 zeros : ℕ → List ℕ
 zeros n = replicate n 0
@@ -23,7 +23,7 @@ f12 =
     ++ zeros 14
 
 pub f12-prints : textOf Ethernet2 f12 ≡ ascii "ethernet2 0 14\nvlan 14 4\nipv4 18 20\nudp 38 8\npayload 46 4\nstop 5\n"
-unfolding f12 zeros text headerLines headerLine endingLines decimal digits slices trace walk start read outcome bytes seenBy judge testsBy leaves lengthOf declaredOf marksOf namesOf turnOf payloadOf follow followOf link isTag chain4 transport
+unfolding f12 zeros text headerLines headerLine endingLines payloadLine stopLine decimal digits slices trace walk start read outcome bytes seenBy judge testsBy leaves lengthOf declaredOf marksOf namesOf turnOf payloadOf follow followOf link isTag chain4 transport
 f12-prints = refl
 
 -- "A 60-byte untagged frame with IPv4 total 60 and IHL 5"

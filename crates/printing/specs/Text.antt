@@ -84,11 +84,16 @@ unfoldable pub headerLines : List Entry → List ℕ
 headerLines [] = []
 headerLines (e ∷ es) = headerLine (e .kind) (e .at) (e .len) ++ headerLines es
 
--- `payload OFFSET LENGTH` and `stop N`
+-- `payload OFFSET LENGTH`
+unfoldable pub payloadLine : (offset length : ℕ) → List ℕ
+payloadLine offset length = line (ascii "payload" ∷ decimal offset ∷ decimal length ∷ [])
+
+-- `stop N`
+unfoldable pub stopLine : ℕ → List ℕ
+stopLine n = line (ascii "stop" ∷ decimal n ∷ [])
+
 unfoldable pub endingLines : Stopped → List ℕ
-endingLines x =
-    line (ascii "payload" ∷ decimal (x .at) ∷ decimal (x .len) ∷ [])
-    ++ line (ascii "stop" ∷ decimal (x .why) ∷ [])
+endingLines x = payloadLine (x .at) (x .len) ++ stopLine (x .why)
 
 -- what refusal 1 carries: "required, have, source"
 abbrev pub shortage : (required have source : ℕ) → List (List ℕ)

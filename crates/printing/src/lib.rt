@@ -1,6 +1,5 @@
 // A frame's reply as the program prints it: the text of specs/Text.antt, written into a lent buffer.
 ghost use mathlib.Core.Path.{_≡_};
-ghost use lib.ListN.{length};
 ghost use Rattle.rules.specs.Place.{entryKind};
 ghost use Rattle.rules.specs.Walk.{slices};
 ghost use Rattle.slicer.specs.Reply.{outcomeOnPaper, replyOf};
@@ -52,7 +51,7 @@ fn accepted_lines(out: &mut [u8], s: &[u8], entry: Entry) -> usize
     }
 }
 
-// How the frame's reply ends.
+// How the frame's reply ends. The rest of the reply, a large value, is left here.
 fn outcome(s: &[u8], entry: Entry) -> Outcome
     ensures { λ r. ⌜ outcomeOnPaper r ≡ replyOf (entryKind entry) (now (s .entry)) .ended ⌝ }
 {

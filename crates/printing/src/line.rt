@@ -13,6 +13,8 @@ ghost use Rattle.printing.specs.Text.{
   shortage,
   carried,
   headerLine,
+  payloadLine,
+  stopLine,
   endingLines,
   refusedLine,
 };
@@ -80,16 +82,28 @@ pub fn header_line(out: &mut [u8], at: usize, kind: Kind, offset: usize, len: us
     number(out, placed, len, NEWLINE)
 }
 
+fn payload_line(out: &mut [u8], at: usize, offset: usize, len: usize) -> usize
+    ensures { λ r. ⌜ Wrote (payloadLine offset len) (now (out .entry)) at (now (out .exit)) r ⌝ }
+{
+    let named = word(out, at, b"payload", SPACE);
+    let begun = number(out, named, offset, SPACE);
+    number(out, begun, len, NEWLINE)
+}
+
+fn stop_line(out: &mut [u8], at: usize, stop: usize) -> usize
+    ensures { λ r. ⌜ Wrote (stopLine stop) (now (out .entry)) at (now (out .exit)) r ⌝ }
+{
+    let named = word(out, at, b"stop", SPACE);
+    number(out, named, stop, NEWLINE)
+}
+
 pub fn ending_lines(out: &mut [u8], at: usize, ending: Ending) -> usize
     ensures { λ r. ⌜ Wrote (endingLines (endingOnPaper ending)) (now (out .entry)) at (now (out .exit)) r ⌝ }
 {
     let payload = ending.payload;
     let stop = ending.stop;
-    let named = word(out, at, b"payload", SPACE);
-    let placed = number(out, named, payload.at, SPACE);
-    let next = number(out, placed, payload.len, NEWLINE);
-    let why = word(out, next, b"stop", SPACE);
-    number(out, why, stop.number(), NEWLINE)
+    let past = payload_line(out, at, payload.at, payload.len);
+    stop_line(out, past, stop.number())
 }
 
 // Required, have and source of what is too short, up to the line's end.

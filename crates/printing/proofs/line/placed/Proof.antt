@@ -24,7 +24,7 @@ same-length : tie.Need-same-length
 same-length c = search needs
 
 returns : tie.Need-returns
-returns c = rw (eq-eqb _ _ (c .before .before .before .before .before .before .before .before .if1 .taken)) (wrote-word (c .before .before .before .before .before .before .number .ensures) (c .before .before .too-short .ensures))
+returns c = rw (eq-eqb _ 1 (c .before .before .before .before .before .before .before .before .if1 .taken)) (wrote-word (c .before .before .before .before .before .before .number .ensures) (c .before .before .too-short .ensures))
 
 number-requires-2 : tie.Need-number-requires-2
 number-requires-2 c κs = search needs
@@ -33,7 +33,7 @@ same-length-2 : tie.Need-same-length-2
 same-length-2 c = search needs
 
 returns-2 : tie.Need-returns-2
-returns-2 c = rw (ne-eqb _ _ (c .before .before .before .before .before .before .if1 .left), eq-eqb _ _ (c .before .before .before .before .if2 .taken)) (c .before .before .number2 .ensures .wrote)
+returns-2 c = rw (ne-eqb _ 1 (c .before .before .before .before .before .before .if1 .left), eq-eqb _ 5 (c .before .before .before .before .if2 .taken)) (c .before .before .number2 .ensures .wrote)
 
 number-requires-3 : tie.Need-number-requires-3
 number-requires-3 c κs = search needs
@@ -42,7 +42,7 @@ same-length-3 : tie.Need-same-length-3
 same-length-3 c = search needs
 
 returns-3 : tie.Need-returns-3
-returns-3 c = rw (ne-eqb _ _ (c .before .before .before .before .before .before .before .before .if1 .left), ne-eqb _ _ (c .before .before .before .before .before .before .if2 .left), eq-eqb _ _ (c .before .before .before .before .if3 .taken)) (c .before .before .number3 .ensures .wrote)
+returns-3 c = rw (ne-eqb _ 1 (c .before .before .before .before .before .before .before .before .if1 .left), ne-eqb _ 5 (c .before .before .before .before .before .before .if2 .left), eq-eqb _ 6 (c .before .before .before .before .if3 .taken)) (c .before .before .number3 .ensures .wrote)
 
 number-requires-4 : tie.Need-number-requires-4
 number-requires-4 c κs = search needs
@@ -57,7 +57,7 @@ same-length-4 : tie.Need-same-length-4
 same-length-4 c = search needs
 
 returns-4 : tie.Need-returns-4
-returns-4 c = rw (ne-eqb _ _ (c .before .before .before .before .before .before .before .before .before .before .before .before .if1 .left), ne-eqb _ _ (c .before .before .before .before .before .before .before .before .before .before .if2 .left), ne-eqb _ _ (c .before .before .before .before .before .before .before .before .if3 .left)) (wrote-word (c .before .before .before .before .before .before .number4 .ensures) (c .before .before .number5 .ensures .wrote))
+returns-4 c = rw (ne-eqb _ 1 (c .before .before .before .before .before .before .before .before .before .before .before .before .if1 .left), ne-eqb _ 5 (c .before .before .before .before .before .before .before .before .before .before .if2 .left), ne-eqb _ 6 (c .before .before .before .before .before .before .before .before .if3 .left)) (wrote-word (c .before .before .before .before .before .before .number4 .ensures) (c .before .before .number5 .ensures .wrote))
 
 pub placed-spec : {M : Type 1} → statement M
 placed-spec =
