@@ -1,11 +1,31 @@
-// Runs the vectors: the frames and sums of document 01, published ones, and the frames at every length test, each with the answer that must
-// come. Prints a line for each case, and at the end how many were compared and how many were the same.
+// Runs the vectors: document 01's frames and sums, published ones, and the frames at every length test, each with the answer that must come.
+// Prints a line for each case, and at the end how many were compared and how many were the same.
 mod compare;
+mod edges_exts;
+mod edges_ipv4;
+mod edges_ipv6;
+mod edges_link;
+mod edges_raw;
+mod edges_tcp;
+mod edges_udp;
 mod frames;
 mod hex;
+mod published;
+mod sums;
 mod tally;
+mod tired;
 
 use tally::Tally;
+
+fn edges(t: Tally) -> Tally {
+    let t = edges_link::run(t);
+    let t = edges_ipv4::run(t);
+    let t = edges_ipv6::run(t);
+    let t = edges_raw::run(t);
+    let t = edges_exts::run(t);
+    let t = edges_udp::run(t);
+    edges_tcp::run(t)
+}
 
 fn report(t: Tally) {
     io::print_decimal(1, t.compared);
@@ -16,5 +36,8 @@ fn report(t: Tally) {
 
 fn main() {
     let t = frames::run(Tally::new());
-    report(t);
+    let t = tired::run(t);
+    let t = sums::run(t);
+    let t = published::run(t);
+    report(edges(t));
 }
