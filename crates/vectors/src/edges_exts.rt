@@ -1,264 +1,327 @@
-// The tests of the fragment header and of AUTH, in IPv6 and in IPv4: one short, exact, one long, in every kind of room.
-use crate::compare::field;
-use crate::compare::lengths;
+// The tests of the extension headers: one short, exact, one long, in rooms that a length field ends and in rooms that the slice ends.
+use crate::list;
 use crate::tally::Tally;
-use rules::Entry;
 
-fn fragment_header(t: Tally) -> Tally {
-    let t = field(
+fn hop_by_hop(t: Tally) -> Tally {
+    list::run(
         t,
-        b"fragment header, room by payload length",
-        Entry::Ethernet,
-        b"000000000000 000000000000 86dd
-          60000000 00082c40 fe800000 00000000 00000000 00000001 fe800000 00000000 00000000 00000002
-          3b000000 00000000",
-        64,
-        19,
-        8,
-        b"refused 1 fragment 54 required 8 have 7 source ipv6\n",
-        b"ethernet2 0 14\nipv6 14 40\nfragment 54 8\npayload 62 0\nstop 4\n",
-        b"ethernet2 0 14\nipv6 14 40\nfragment 54 8\npayload 62 1\nstop 4\n",
-    );
-    let t = lengths(
-        t,
-        b"fragment header, room by the slice",
-        Entry::Ipv6,
-        b"60000000 00002c40 fe800000 00000000 00000000 00000001 fe800000 00000000 00000000 00000002
-          3b000000 00000000",
-        48,
-        b"refused 1 fragment 40 required 8 have 7 source slice\n",
-        b"ipv6 0 40\nfragment 40 8\npayload 48 0\nstop 4\n",
-        b"ipv6 0 40\nfragment 40 8\npayload 48 1\nstop 4\n",
-    );
-    lengths(
-        t,
-        b"fragment header behind routing",
-        Entry::Ipv6,
-        b"60000000 00002b40 fe800000 00000000 00000000 00000001 fe800000 00000000 00000000 00000002
-          2c000000 00000000 3b000000 00000000",
-        56,
-        b"refused 1 fragment 48 required 8 have 7 source slice\n",
-        b"ipv6 0 40\nrouting 40 8\nfragment 48 8\npayload 56 0\nstop 4\n",
-        b"ipv6 0 40\nrouting 40 8\nfragment 48 8\npayload 56 1\nstop 4\n",
+        b"n hop-by-hop, room by payload length
+z 12
+x 86dd 60000000 00080040
+z 32
+x 3b00
+z 6
+b 19 7
+1 72 refused 1 hop-by-hop 54 required 8 have 7 source ipv6
+b 19 8
+1 72 ethernet2 0 14/ipv6 14 40/hop-by-hop 54 8/payload 62 0/stop 4
+b 19 9
+1 72 ethernet2 0 14/ipv6 14 40/hop-by-hop 54 8/payload 62 1/stop 4
+b 55 1
+b 19 15
+1 72 refused 1 hop-by-hop 54 required 16 have 15 source ipv6
+b 19 16
+1 72 ethernet2 0 14/ipv6 14 40/hop-by-hop 54 16/payload 70 0/stop 4
+b 19 17
+1 72 ethernet2 0 14/ipv6 14 40/hop-by-hop 54 16/payload 70 1/stop 4
+n hop-by-hop, room by the slice
+x 60000000 00000040
+z 32
+x 3b00
+z 6
+3 47 refused 1 hop-by-hop 40 required 8 have 7 source slice
+3 48 ipv6 0 40/hop-by-hop 40 8/payload 48 0/stop 4
+3 49 ipv6 0 40/hop-by-hop 40 8/payload 48 1/stop 4
+b 41 1
+3 55 refused 1 hop-by-hop 40 required 16 have 15 source slice
+3 56 ipv6 0 40/hop-by-hop 40 16/payload 56 0/stop 4
+3 57 ipv6 0 40/hop-by-hop 40 16/payload 56 1/stop 4",
     )
 }
 
-fn fragment_bits(t: Tally) -> Tally {
-    let t = field(
+fn routing(t: Tally) -> Tally {
+    list::run(
         t,
-        b"M of the fragment header",
-        Entry::Ipv6,
-        b"60000000 00002c40 fe800000 00000000 00000000 00000001 fe800000 00000000 00000000 00000002
-          11000000 00000000 00350035 00080000",
-        56,
-        43,
-        1,
-        b"ipv6 0 40\nfragment 40 8\nudp 48 8\npayload 56 0\nstop 5\n",
-        b"ipv6 0 40\nfragment 40 8\npayload 48 8\nstop 3\n",
-        b"ipv6 0 40\nfragment 40 8\nudp 48 8\npayload 56 0\nstop 5\n",
-    );
-    field(
-        t,
-        b"offset of the fragment header",
-        Entry::Ipv6,
-        b"60000000 00002c40 fe800000 00000000 00000000 00000001 fe800000 00000000 00000000 00000002
-          11000000 00000000 00350035 00080000",
-        56,
-        43,
-        8,
-        b"ipv6 0 40\nfragment 40 8\npayload 48 8\nstop 3\n",
-        b"ipv6 0 40\nfragment 40 8\npayload 48 8\nstop 3\n",
-        b"ipv6 0 40\nfragment 40 8\npayload 48 8\nstop 3\n",
+        b"n routing, room by payload length
+z 12
+x 86dd 60000000 00082b40
+z 32
+x 3b00
+z 6
+b 19 7
+1 72 refused 1 routing 54 required 8 have 7 source ipv6
+b 19 8
+1 72 ethernet2 0 14/ipv6 14 40/routing 54 8/payload 62 0/stop 4
+b 19 9
+1 72 ethernet2 0 14/ipv6 14 40/routing 54 8/payload 62 1/stop 4
+b 55 1
+b 19 15
+1 72 refused 1 routing 54 required 16 have 15 source ipv6
+b 19 16
+1 72 ethernet2 0 14/ipv6 14 40/routing 54 16/payload 70 0/stop 4
+b 19 17
+1 72 ethernet2 0 14/ipv6 14 40/routing 54 16/payload 70 1/stop 4
+n routing, room by the slice
+x 60000000 00002b40
+z 32
+x 3b00
+z 6
+3 47 refused 1 routing 40 required 8 have 7 source slice
+3 48 ipv6 0 40/routing 40 8/payload 48 0/stop 4
+3 49 ipv6 0 40/routing 40 8/payload 48 1/stop 4
+b 41 1
+3 55 refused 1 routing 40 required 16 have 15 source slice
+3 56 ipv6 0 40/routing 40 16/payload 56 0/stop 4
+3 57 ipv6 0 40/routing 40 16/payload 56 1/stop 4",
     )
 }
 
-fn auth_12(t: Tally) -> Tally {
-    let t = field(
+fn destination(t: Tally) -> Tally {
+    list::run(
         t,
-        b"AUTH of 12 bytes, room by payload length",
-        Entry::Ethernet,
-        b"000000000000 000000000000 86dd
-          60000000 000c3340 fe800000 00000000 00000000 00000001 fe800000 00000000 00000000 00000002
-          3b010000 00000001 00000001",
-        68,
-        19,
-        12,
-        b"refused 1 auth 54 required 12 have 11 source ipv6\n",
-        b"ethernet2 0 14\nipv6 14 40\nauth 54 12\npayload 66 0\nstop 4\n",
-        b"ethernet2 0 14\nipv6 14 40\nauth 54 12\npayload 66 1\nstop 4\n",
-    );
-    lengths(
-        t,
-        b"AUTH of 12 bytes, room by the slice",
-        Entry::Ipv6,
-        b"60000000 00003340 fe800000 00000000 00000000 00000001 fe800000 00000000 00000000 00000002
-          3b010000 00000001 00000001",
-        52,
-        b"refused 1 auth 40 required 12 have 11 source slice\n",
-        b"ipv6 0 40\nauth 40 12\npayload 52 0\nstop 4\n",
-        b"ipv6 0 40\nauth 40 12\npayload 52 1\nstop 4\n",
+        b"n destination, room by payload length
+z 12
+x 86dd 60000000 00083c40
+z 32
+x 3b00
+z 6
+b 19 7
+1 72 refused 1 destination 54 required 8 have 7 source ipv6
+b 19 8
+1 72 ethernet2 0 14/ipv6 14 40/destination 54 8/payload 62 0/stop 4
+b 19 9
+1 72 ethernet2 0 14/ipv6 14 40/destination 54 8/payload 62 1/stop 4
+b 55 1
+b 19 15
+1 72 refused 1 destination 54 required 16 have 15 source ipv6
+b 19 16
+1 72 ethernet2 0 14/ipv6 14 40/destination 54 16/payload 70 0/stop 4
+b 19 17
+1 72 ethernet2 0 14/ipv6 14 40/destination 54 16/payload 70 1/stop 4
+n destination, room by the slice
+x 60000000 00003c40
+z 32
+x 3b00
+z 6
+3 47 refused 1 destination 40 required 8 have 7 source slice
+3 48 ipv6 0 40/destination 40 8/payload 48 0/stop 4
+3 49 ipv6 0 40/destination 40 8/payload 48 1/stop 4
+b 41 1
+3 55 refused 1 destination 40 required 16 have 15 source slice
+3 56 ipv6 0 40/destination 40 16/payload 56 0/stop 4
+3 57 ipv6 0 40/destination 40 16/payload 56 1/stop 4",
     )
 }
 
-fn auth_12_in_ipv4(t: Tally) -> Tally {
-    let t = field(
+fn chains(t: Tally) -> Tally {
+    list::run(
         t,
-        b"AUTH of 12 bytes in IPv4, Ethernet",
-        Entry::Ethernet,
-        b"000000000000 000000000000 0800
-          45000020 00000000 40330000 0a000001 0a000002
-          3b010000 00000001 00000001",
-        48,
-        17,
-        32,
-        b"refused 1 auth 34 required 12 have 11 source ipv4\n",
-        b"ethernet2 0 14\nipv4 14 20\nauth 34 12\npayload 46 0\nstop 4\n",
-        b"ethernet2 0 14\nipv4 14 20\nauth 34 12\npayload 46 1\nstop 4\n",
-    );
-    field(
-        t,
-        b"AUTH of 12 bytes in IPv4, IPv4 entry",
-        Entry::Ipv4,
-        b"45000020 00000000 40330000 0a000001 0a000002 3b010000 00000001 00000001",
-        34,
-        3,
-        32,
-        b"refused 1 auth 20 required 12 have 11 source ipv4\n",
-        b"ipv4 0 20\nauth 20 12\npayload 32 0\nstop 4\n",
-        b"ipv4 0 20\nauth 20 12\npayload 32 1\nstop 4\n",
+        b"n a length byte of 255
+x 60000000 00003c40
+z 32
+x 3b00
+z 6
+b 41 255
+3 2087 refused 1 destination 40 required 2048 have 2047 source slice
+3 2088 ipv6 0 40/destination 40 2048/payload 2088 0/stop 4
+3 2089 ipv6 0 40/destination 40 2048/payload 2088 1/stop 4
+n hop-by-hop named by destination
+x 60000000 00003c40
+z 32
+x 0000
+z 6
+3 47 refused 1 destination 40 required 8 have 7 source slice
+3 48 refused 5 hop-by-hop 48
+3 49 refused 5 hop-by-hop 48
+n fragment behind routing
+x 60000000 00002b40
+z 32
+x 2c00
+z 6
+x 3b000000
+z 4
+3 55 refused 1 fragment 48 required 8 have 7 source slice
+3 56 ipv6 0 40/routing 40 8/fragment 48 8/payload 56 0/stop 4
+3 57 ipv6 0 40/routing 40 8/fragment 48 8/payload 56 1/stop 4",
     )
 }
 
-fn auth_16(t: Tally) -> Tally {
-    let t = field(
+fn fragment(t: Tally) -> Tally {
+    list::run(
         t,
-        b"AUTH of 16 bytes, room by payload length",
-        Entry::Ethernet,
-        b"000000000000 000000000000 86dd
-          60000000 00103340 fe800000 00000000 00000000 00000001 fe800000 00000000 00000000 00000002
-          3b020000 00000001 00000001 00000000",
-        72,
-        19,
-        16,
-        b"refused 1 auth 54 required 16 have 15 source ipv6\n",
-        b"ethernet2 0 14\nipv6 14 40\nauth 54 16\npayload 70 0\nstop 4\n",
-        b"ethernet2 0 14\nipv6 14 40\nauth 54 16\npayload 70 1\nstop 4\n",
-    );
-    lengths(
-        t,
-        b"AUTH of 16 bytes, room by the slice",
-        Entry::Ipv6,
-        b"60000000 00003340 fe800000 00000000 00000000 00000001 fe800000 00000000 00000000 00000002
-          3b020000 00000001 00000001 00000000",
-        56,
-        b"refused 1 auth 40 required 16 have 15 source slice\n",
-        b"ipv6 0 40\nauth 40 16\npayload 56 0\nstop 4\n",
-        b"ipv6 0 40\nauth 40 16\npayload 56 1\nstop 4\n",
+        b"n fragment, room by payload length
+z 12
+x 86dd 60000000 00082c40
+z 32
+x 3b000000
+z 4
+b 19 7
+1 64 refused 1 fragment 54 required 8 have 7 source ipv6
+b 19 8
+1 64 ethernet2 0 14/ipv6 14 40/fragment 54 8/payload 62 0/stop 4
+b 19 9
+1 64 ethernet2 0 14/ipv6 14 40/fragment 54 8/payload 62 1/stop 4
+n fragment, room by the slice
+x 60000000 00002c40
+z 32
+x 3b000000
+z 4
+3 47 refused 1 fragment 40 required 8 have 7 source slice
+3 48 ipv6 0 40/fragment 40 8/payload 48 0/stop 4
+3 49 ipv6 0 40/fragment 40 8/payload 48 1/stop 4
+n fragment, M and offset
+x 60000000 00002c40
+z 32
+x 11000000
+z 4
+x 00350035 00080000
+b 43 0
+3 56 ipv6 0 40/fragment 40 8/udp 48 8/payload 56 0/stop 5
+b 43 1
+3 56 ipv6 0 40/fragment 40 8/payload 48 8/stop 3
+b 43 2
+3 56 ipv6 0 40/fragment 40 8/udp 48 8/payload 56 0/stop 5
+b 43 7
+3 56 ipv6 0 40/fragment 40 8/payload 48 8/stop 3
+b 43 8
+3 56 ipv6 0 40/fragment 40 8/payload 48 8/stop 3
+b 43 9
+3 56 ipv6 0 40/fragment 40 8/payload 48 8/stop 3",
     )
 }
 
-fn auth_16_in_ipv4(t: Tally) -> Tally {
-    let t = field(
+fn auth(t: Tally) -> Tally {
+    list::run(
         t,
-        b"AUTH of 16 bytes in IPv4, Ethernet",
-        Entry::Ethernet,
-        b"000000000000 000000000000 0800
-          45000024 00000000 40330000 0a000001 0a000002
-          3b020000 00000001 00000001 00000000",
-        52,
-        17,
-        36,
-        b"refused 1 auth 34 required 16 have 15 source ipv4\n",
-        b"ethernet2 0 14\nipv4 14 20\nauth 34 16\npayload 50 0\nstop 4\n",
-        b"ethernet2 0 14\nipv4 14 20\nauth 34 16\npayload 50 1\nstop 4\n",
-    );
-    field(
-        t,
-        b"AUTH of 16 bytes in IPv4, IPv4 entry",
-        Entry::Ipv4,
-        b"45000024 00000000 40330000 0a000001 0a000002 3b020000 00000001 00000001 00000000",
-        38,
-        3,
-        36,
-        b"refused 1 auth 20 required 16 have 15 source ipv4\n",
-        b"ipv4 0 20\nauth 20 16\npayload 36 0\nstop 4\n",
-        b"ipv4 0 20\nauth 20 16\npayload 36 1\nstop 4\n",
+        b"n AUTH, room by payload length
+z 12
+x 86dd 60000000 000c3340
+z 32
+x 3b01
+z 10
+b 19 11
+1 72 refused 1 auth 54 required 12 have 11 source ipv6
+b 19 12
+1 72 ethernet2 0 14/ipv6 14 40/auth 54 12/payload 66 0/stop 4
+b 19 13
+1 72 ethernet2 0 14/ipv6 14 40/auth 54 12/payload 66 1/stop 4
+b 55 2
+b 19 15
+1 72 refused 1 auth 54 required 16 have 15 source ipv6
+b 19 16
+1 72 ethernet2 0 14/ipv6 14 40/auth 54 16/payload 70 0/stop 4
+b 19 17
+1 72 ethernet2 0 14/ipv6 14 40/auth 54 16/payload 70 1/stop 4
+n AUTH, room by the slice
+x 60000000 00003340
+z 32
+x 3b01
+z 10
+3 51 refused 1 auth 40 required 12 have 11 source slice
+3 52 ipv6 0 40/auth 40 12/payload 52 0/stop 4
+3 53 ipv6 0 40/auth 40 12/payload 52 1/stop 4
+b 41 2
+3 55 refused 1 auth 40 required 16 have 15 source slice
+3 56 ipv6 0 40/auth 40 16/payload 56 0/stop 4
+3 57 ipv6 0 40/auth 40 16/payload 56 1/stop 4
+n AUTH, length byte 0, 1 and 2, and 255
+x 60000000 00003340
+z 32
+x 3b01
+z 10
+b 41 0
+3 52 refused 6 auth 40
+b 41 1
+3 52 ipv6 0 40/auth 40 12/payload 52 0/stop 4
+b 41 2
+3 52 refused 1 auth 40 required 16 have 12 source slice
+b 41 255
+3 1067 refused 1 auth 40 required 1028 have 1027 source slice
+3 1068 ipv6 0 40/auth 40 1028/payload 1068 0/stop 4
+3 1069 ipv6 0 40/auth 40 1028/payload 1068 1/stop 4
+n AUTH behind AUTH
+x 60000000 00003340
+z 32
+x 3301
+z 10
+x 3b01
+z 10
+3 63 refused 1 auth 52 required 12 have 11 source slice
+3 64 ipv6 0 40/auth 40 12/auth 52 12/payload 64 0/stop 4
+3 65 ipv6 0 40/auth 40 12/auth 52 12/payload 64 1/stop 4",
     )
 }
 
-fn auth_length_byte(t: Tally) -> Tally {
-    let t = field(
+fn auth_in_ipv4(t: Tally) -> Tally {
+    list::run(
         t,
-        b"AUTH length byte in IPv6",
-        Entry::Ipv6,
-        b"60000000 00003340 fe800000 00000000 00000000 00000001 fe800000 00000000 00000000 00000002
-          3b010000 00000001 00000001",
-        52,
-        41,
-        1,
-        b"refused 6 auth 40\n",
-        b"ipv6 0 40\nauth 40 12\npayload 52 0\nstop 4\n",
-        b"refused 1 auth 40 required 16 have 12 source slice\n",
-    );
-    field(
-        t,
-        b"AUTH length byte in IPv4",
-        Entry::Ipv4,
-        b"45000020 00000000 40330000 0a000001 0a000002 3b010000 00000001 00000001",
-        32,
-        21,
-        1,
-        b"refused 6 auth 20\n",
-        b"ipv4 0 20\nauth 20 12\npayload 32 0\nstop 4\n",
-        b"refused 1 auth 20 required 16 have 12 source ipv4\n",
-    )
-}
-
-fn longest_auth(t: Tally) -> Tally {
-    lengths(
-        t,
-        b"AUTH of 1028 bytes",
-        Entry::Ipv6,
-        b"60000000 00003340 fe800000 00000000 00000000 00000001 fe800000 00000000 00000000 00000002 3bff0000 00000001 00000001",
-        1068,
-        b"refused 1 auth 40 required 1028 have 1027 source slice\n",
-        b"ipv6 0 40\nauth 40 1028\npayload 1068 0\nstop 4\n",
-        b"ipv6 0 40\nauth 40 1028\npayload 1068 1\nstop 4\n",
-    )
-}
-
-fn auth_behind_auth(t: Tally) -> Tally {
-    let t = lengths(
-        t,
-        b"AUTH behind AUTH in IPv6",
-        Entry::Ipv6,
-        b"60000000 00003340 fe800000 00000000 00000000 00000001 fe800000 00000000 00000000 00000002
-          33010000 00000001 00000001 3b010000 00000001 00000001",
-        64,
-        b"refused 1 auth 52 required 12 have 11 source slice\n",
-        b"ipv6 0 40\nauth 40 12\nauth 52 12\npayload 64 0\nstop 4\n",
-        b"ipv6 0 40\nauth 40 12\nauth 52 12\npayload 64 1\nstop 4\n",
-    );
-    lengths(
-        t,
-        b"AUTH behind AUTH in IPv4",
-        Entry::Ipv4,
-        b"4500002c 00000000 40330000 0a000001 0a000002 33010000 00000001 00000001 3b010000 00000001 00000001",
-        44,
-        b"refused 1 ipv4-packet 0 required 44 have 43 source slice\n",
-        b"ipv4 0 20\nauth 20 12\npayload 32 12\nstop 4\n",
-        b"ipv4 0 20\nauth 20 12\npayload 32 12\nstop 4\n",
+        b"n AUTH in IPv4, Ethernet
+z 12
+x 0800 45000020 00000000 40330000
+z 8
+x 3b01
+z 10
+b 17 31
+1 54 refused 1 auth 34 required 12 have 11 source ipv4
+b 17 32
+1 54 ethernet2 0 14/ipv4 14 20/auth 34 12/payload 46 0/stop 4
+b 17 33
+1 54 ethernet2 0 14/ipv4 14 20/auth 34 12/payload 46 1/stop 4
+b 35 2
+b 17 35
+1 54 refused 1 auth 34 required 16 have 15 source ipv4
+b 17 36
+1 54 ethernet2 0 14/ipv4 14 20/auth 34 16/payload 50 0/stop 4
+b 17 37
+1 54 ethernet2 0 14/ipv4 14 20/auth 34 16/payload 50 1/stop 4
+n AUTH in IPv4, IPv4 entry
+x 45000020 00000000 40330000
+z 8
+x 3b01
+z 10
+b 3 31
+2 40 refused 1 auth 20 required 12 have 11 source ipv4
+b 3 32
+2 40 ipv4 0 20/auth 20 12/payload 32 0/stop 4
+b 3 33
+2 40 ipv4 0 20/auth 20 12/payload 32 1/stop 4
+b 21 2
+b 3 35
+2 40 refused 1 auth 20 required 16 have 15 source ipv4
+b 3 36
+2 40 ipv4 0 20/auth 20 16/payload 36 0/stop 4
+b 3 37
+2 40 ipv4 0 20/auth 20 16/payload 36 1/stop 4
+n AUTH in IPv4, length byte 0, 1 and 2
+x 45000020 00000000 40330000
+z 8
+x 3b01
+z 10
+b 21 0
+2 32 refused 6 auth 20
+b 21 1
+2 32 ipv4 0 20/auth 20 12/payload 32 0/stop 4
+b 21 2
+2 32 refused 1 auth 20 required 16 have 12 source ipv4
+n AUTH behind AUTH in IPv4
+x 4500002c 00000000 40330000
+z 8
+x 3301
+z 10
+x 3b01
+z 10
+2 43 refused 1 ipv4-packet 0 required 44 have 43 source slice
+2 44 ipv4 0 20/auth 20 12/payload 32 12/stop 4
+2 45 ipv4 0 20/auth 20 12/payload 32 12/stop 4",
     )
 }
 
 pub fn run(t: Tally) -> Tally {
-    let t = fragment_header(t);
-    let t = fragment_bits(t);
-    let t = auth_12(t);
-    let t = auth_12_in_ipv4(t);
-    let t = auth_16(t);
-    let t = auth_16_in_ipv4(t);
-    let t = auth_length_byte(t);
-    let t = longest_auth(t);
-    auth_behind_auth(t)
+    let t = hop_by_hop(t);
+    let t = routing(t);
+    let t = destination(t);
+    let t = chains(t);
+    let t = fragment(t);
+    let t = auth(t);
+    auth_in_ipv4(t)
 }
