@@ -2,7 +2,7 @@
 //   n NAME       a new group of cases: the name is printed, and there are no bytes
 //   x DIGITS     these bytes behind those that are there
 //   z N          N zero bytes behind those that are there
-//   b N VALUE    the byte at N has this value
+//   b N VALUE    the byte at N has this value; bytes up to it are there then
 //   1 N ANSWER   a case: the first N bytes (with zeros behind those that are there) as an Ethernet frame print this answer, whose lines
 //                have slashes between them; 2 the same as a packet known to be IPv4, 3 as one known to be IPv6
 //   +            the bytes are a slice that is added to the sum, and then there are none
@@ -39,7 +39,7 @@ fn room() -> [u8; ROOM]
 }
 
 fn named(state: State, name: &[u8], bytes: &mut [u8]) -> State {
-    clear(bytes);
+    clear(bytes, state.used);
     io::write_all(1, b"\n");
     io::write_all(1, name);
     io::write_all(1, b":");
@@ -87,11 +87,14 @@ fn byte_set(state: State, rest: &[u8], bytes: &mut [u8]) -> State {
     let at = number(rest);
     let past = at.past;
     let value = number(behind(&rest[past..]));
-    if value.value < 256 {
-        push(bytes, at.value, value.value as u8);
-        return state;
+    if 255 < value.value {
+        return faulty(state);
     }
-    faulty(state)
+    let past_it = push(bytes, at.value, value.value as u8);
+    if state.used < past_it {
+        return with_used(state, past_it);
+    }
+    state
 }
 
 fn frame(state: State, rest: &[u8], bytes: &[u8], entry: Entry) -> State {
@@ -103,7 +106,7 @@ fn frame(state: State, rest: &[u8], bytes: &[u8], entry: Entry) -> State {
     with_tally(state, counted)
 }
 
-fn added(state: State, bytes: &[u8]) -> State {
+fn added(state: State, bytes: &mut [u8]) -> State {
     let used = state.used;
     let sum = state.sum;
     let tally = state.tally;
@@ -111,6 +114,7 @@ fn added(state: State, bytes: &[u8]) -> State {
         return faulty(state);
     }
     let more = sum.add_slice(&bytes[..used]);
+    clear(bytes, used);
     State {
         used: 0,
         sum: more,

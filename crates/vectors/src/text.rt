@@ -104,10 +104,11 @@ pub fn lines(s: &[u8], out: &mut [u8]) -> usize {
     push(out, at, b'\n')
 }
 
-pub fn clear(out: &mut [u8]) {
+// Zeros in place of the first n bytes.
+pub fn clear(out: &mut [u8], n: usize) {
     let mut i: usize = 0;
-    while i < out.len() {
-        out[i] = 0;
+    while i < n {
+        push(out, i, 0);
         i += 1;
     }
 }
