@@ -17,6 +17,7 @@ use Rattle.rules.specs.declared.stop.Stop.{Stop}
 use Rattle.rules.specs.declared.stop.Stop.the-variants as T
 use Rattle.rules.specs.Test.{pick, sourceNumber, Failure, short, other, Outcome, whole, failed}
 use Rattle.rules.specs.Paper.{stopNumber, faultOnPaper, refusalOnPaper}
+use Rattle.rules.specs.Rules as W
 use Rattle.rules.specs.Place.{Stopped, endingOnPaper}
 use Rattle.rules.specs.Walk.{Answer, is, no-more, refusal}
 use Rattle.headers.specs.declared.link.LinkRead.{LinkRead}
@@ -33,6 +34,9 @@ use Rattle.headers.specs.declared.transport.TransportRead.the-variants as HT
 use Rattle.headers.specs.Says.{linkOnPaper, ipOnPaper, extOnPaper, transportOnPaper}
 use Rattle.rules.specs.declared.place.Range.{Range}
 use Rattle.rules.specs.declared.stop.Ending.{Ending}
+use Rattle.turns.specs.declared.turn.Turn.{Turn}
+use Rattle.turns.specs.declared.turn.Turn.the-variants as U
+use Rattle.turns.specs.Turns.{turnOnPaper}
 use Rattle.slicer.specs.declared.packet.Outcome.{Outcome as Ends}
 use Rattle.slicer.specs.declared.packet.Outcome.the-variants as O
 use Rattle.slicer.specs.declared.packet.SlicedPacket.{SlicedPacket}
@@ -194,3 +198,14 @@ stepOf P.not-a-place = N.NotAPlace
 pub step-back : Back stepOnPaper
 unfolding stepOf
 step-back = record { back = stepOf; same = elim [ N.Next len p ↦ refl | N.Last len e ↦ ap (N.Last len) (ending-back .same e) | N.Refused q ↦ ap N.Refused (refusal-same q) | N.NotAPlace ↦ refl ] }
+
+-- ---- where a number leads
+
+turnOf : W.Turn → Turn
+turnOf (W.opens k) = U.Opens k
+turnOf (W.stops n) = U.Stops (stop-back .back n)
+turnOf W.late = U.Late
+
+pub turn-back : Back turnOnPaper
+unfolding turnOf
+turn-back = record { back = turnOf; same = elim [ U.Opens k ↦ refl | U.Stops s ↦ ap U.Stops (stop-back .same s) | U.Late ↦ refl ] }
