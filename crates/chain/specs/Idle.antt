@@ -51,7 +51,7 @@ two-headers = (_, _, _, means tagged)
 
 -- ---- "one that refuses everything (demand 3: a frame with a chain is accepted)"
 
-pub refuses-everything : (slice : List ℕ → SlicedPacket) → ((s : List ℕ) → (q : Refusal) × (slice s .outcome ≡ O.Refused q)) → ((s : List ℕ) → AcceptedIffChain E.Ethernet s (slice s)) → ⊥
+pub refuses-everything : (slice : List ℕ → SlicedPacket) → ((s : List ℕ) → (q : Refusal) × (slice s .outcome ≡ O.Refused q)) → ((s : List ℕ) → AcceptedIffChain E.Ethernet s (slice s .outcome)) → ⊥
 refuses-everything slice idle true-of =
     let a = true-of (zeros 14) .accepts _ _ (one-header .2) in
     differ (slice (zeros 14) .outcome) (a .1) (idle (zeros 14) .1)
@@ -61,7 +61,7 @@ refuses-everything slice idle true-of =
 
 -- ---- "one fixed reply .. (demand 3's list, over demand 2's header rules)": accepted once, it would accept a frame with no chain
 
-pub one-fixed-reply : (r : SlicedPacket) → ((s : List ℕ) → AcceptedIffChain E.Ethernet s r) → ⊥
+pub one-fixed-reply : (r : SlicedPacket) → ((s : List ℕ) → AcceptedIffChain E.Ethernet s (r .outcome)) → ⊥
 one-fixed-reply r true-of =
     let a = true-of (zeros 14) .accepts _ _ (one-header .2) in
     no-chain (true-of (zeros 13) .chained (a .0) (a .1) .1)
