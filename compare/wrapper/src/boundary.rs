@@ -1,7 +1,7 @@
 //! The boundary to the proved library: its structs, its functions, and the only unsafe code of this crate.
 //!
-//! The structs are those of crates/collector/src/handed.rt. What each number is, and that the functions promise it, stands
-//! in crates/collector/specs/Handed.antt.
+//! The structs are those of crates/collector/src/handed.rt. What each number is stands in
+//! crates/collector/specs/Handed.antt, which the contracts of the functions cite.
 
 /// How many tags a packet has room for.
 pub const TAG_LIMIT: usize = 3;
@@ -85,6 +85,14 @@ pub struct OptionReply {
     pub offset: usize,
     pub known: bool,
 }
+
+// the sizes that the C header states too
+const _: () = {
+    assert!(std::mem::size_of::<Packet>() == 240);
+    assert!(std::mem::size_of::<HeaderReply>() == 80);
+    assert!(std::mem::size_of::<CountReply>() == 64);
+    assert!(std::mem::size_of::<OptionReply>() == 56);
+};
 
 extern "C" {
     fn bhirkulom_slice(frame: *const u8, len: usize, entry: usize) -> Packet;

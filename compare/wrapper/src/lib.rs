@@ -1,7 +1,7 @@
 //! Bhirkulom: a slicer of captured network frames, proved in Rattle, for Rust programs.
 //!
-//! The API reads like that of the crate etherparse. Any bytes of any length get an answer: the parts of an accepted frame,
-//! or the one [`Refusal`], which names its reason, its layer and its offset.
+//! The API reads like that of the crate etherparse. Any bytes of any length get an answer: the parts of an
+//! accepted frame, or the one [`Refusal`], which names its reason, its layer and its offset.
 //!
 //! ```
 //! use bhirkulom::{Kind, Number, SlicedPacket, Stop};
@@ -66,8 +66,6 @@ mod refusal;
 
 pub use checksum::Sum16BitWords;
 pub use header::{count, header, headers, Entry, HeaderSlice, Headers, Kind};
-pub use options::{
-    tcp_option, tcp_options, OptionKind, OptionReason, OptionRefusal, TcpOption, TcpOptionsIterator,
-};
+pub use options::{tcp_option, tcp_options, OptionKind, OptionReason, OptionRefusal, TcpOption, TcpOptionsIterator};
 pub use packet::{NetSlice, Number, PartSlice, SlicedPacket, Stop, Tags, TAG_LIMIT};
 pub use refusal::{Layer, Reason, Refusal, Source};

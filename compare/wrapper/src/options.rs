@@ -138,10 +138,7 @@ pub fn tcp_option(options: &[u8], k: usize) -> Result<Option<TcpOption<'_>>, Opt
 /// # Ok::<(), bhirkulom::OptionRefusal>(())
 /// ```
 pub fn tcp_options(options: &[u8]) -> TcpOptionsIterator<'_> {
-    TcpOptionsIterator {
-        options,
-        next: Some(0),
-    }
+    TcpOptionsIterator { options, next: Some(0) }
 }
 
 /// The iterator of [`tcp_options`].

@@ -176,13 +176,11 @@ impl fmt::Debug for Tags<'_> {
 }
 
 impl Number {
-    // "The naming number is the EtherType for stops 1 and 2, else the last IP number": the two are two and one bytes wide
+    // "The naming number is the EtherType for stops 1 and 2, else the last IP number"; it has two bytes or one
     fn new(stop: Stop, number: usize) -> Number {
         match stop {
             Stop::EtherTypeNotOpened | Stop::TagsFull => Number::EtherType(number as u16),
-            Stop::Fragment | Stop::IpNumberNotOpened | Stop::TransportRead => {
-                Number::Ip(number as u8)
-            }
+            Stop::Fragment | Stop::IpNumberNotOpened | Stop::TransportRead => Number::Ip(number as u8),
         }
     }
 }

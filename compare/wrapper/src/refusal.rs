@@ -157,11 +157,7 @@ impl fmt::Display for Refusal {
         let (number, layer) = (self.number(), self.layer.name());
         write!(f, "refused {number} {layer} {}", self.offset)?;
         match self.reason {
-            Reason::TooShort {
-                required,
-                have,
-                source,
-            } => {
+            Reason::TooShort { required, have, source } => {
                 let source = source.name();
                 write!(f, " required {required} have {have} source {source}")
             }

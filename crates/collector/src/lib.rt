@@ -132,6 +132,6 @@ pub extern "C" fn bhirkulom_sum_answer(sum: u16) -> u16
 pub extern "C" fn bhirkulom_sum_answer_no_zero(sum: u16) -> u16
     ensures { λ r. ⌜ r ≡ noZero (answer sum) ⌝ }
 {
-    let words = Sum16BitWords { sum };
-    words.to_ones_complement_with_no_zero()
+    let added = Sum16BitWords { sum };
+    added.to_ones_complement_with_no_zero()
 }

@@ -1,6 +1,6 @@
 -- `bhirkulom_count` meets its contract. Assumes nothing.
-use Rattle.collector.specs.Handed.{countBy, countFor}
-use mathlib.Core.Path.{refl, ap, sym, _∙_}
+use Rattle.collector.specs.Handed.{countBy}
+use mathlib.Core.Path.{refl, ap, _∙_}
 use borrow.Author.Needs.{needs}
 use Rattle.collector.proofs.bhirkulom_count.Statement.{statement}
 use Rattle.collector.proofs.bhirkulom_count.Tie as tie

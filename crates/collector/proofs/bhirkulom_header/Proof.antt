@@ -1,6 +1,6 @@
 -- `bhirkulom_header` meets its contract. Assumes nothing.
 use Rattle.collector.specs.Handed.{headerBy}
-use mathlib.Core.Path.{refl, ap, sym, _∙_}
+use mathlib.Core.Path.{refl, ap, _∙_}
 use borrow.Author.Needs.{needs}
 use Rattle.collector.proofs.bhirkulom_header.Statement.{statement}
 use Rattle.collector.proofs.bhirkulom_header.Tie as tie

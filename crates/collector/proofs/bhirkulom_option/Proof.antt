@@ -1,6 +1,6 @@
 -- `bhirkulom_option` meets its contract. Assumes nothing.
 use Rattle.collector.specs.Handed.{optionBy}
-use mathlib.Core.Path.{refl, ap, sym, _∙_}
+use mathlib.Core.Path.{refl, ap, _∙_}
 use borrow.Author.Needs.{needs}
 use Rattle.collector.proofs.bhirkulom_option.Statement.{statement}
 use Rattle.collector.proofs.bhirkulom_option.Tie as tie

@@ -1,7 +1,6 @@
 -- `entry_by` meets its contract. Assumes nothing.
 use mathlib.Core.Path.{refl}
 use borrow.Author.Tests.{ne-eqb}
-use borrow.Author.Needs.{needs}
 use Rattle.collector.proofs.entry_by.Statement.{statement}
 use Rattle.collector.proofs.entry_by.Tie as tie
 

@@ -3,7 +3,7 @@ use lib.ListN.{length-set}
 use Rattle.collector.proofs.Filled.{filled-next, filled-whole}
 use Prim.Native.Nat.{_+_, _-_, _≤_}
 use native.Mathlib.Omega.{arith}
-use mathlib.Core.Path.{_≡_, refl, ap, _∙_}
+use mathlib.Core.Path.{_≡_, refl}
 use mathlib.Core.List.{map, _++_}
 use lib.ListN.{length, take, drop}
 use Rattle.collector.specs.Handed.{spanOf}
