@@ -1,21 +1,21 @@
 -- `reply::spans` meets its contract. Assumes nothing.
-use lib.ListN.{length-set}
 use Rattle.collector.proofs.Filled.{filled-next, filled-whole}
 use Prim.Native.Nat.{_+_, _-_, _≤_}
 use native.Mathlib.Omega.{arith}
 use mathlib.Core.Path.{_≡_, refl}
 use mathlib.Core.List.{map, _++_}
-use lib.ListN.{length, take, drop}
+use lib.ListN.{length, take, drop, length-set}
+use Rattle.rules.specs.Numbers.{tagLimit}
 use Rattle.collector.specs.Handed.{spanOf}
 use borrow.Author.Needs.{needs}
 use Rattle.collector.proofs.reply.spans.Statement.{statement}
 use Rattle.collector.proofs.reply.spans.Tie as tie
 
 abbrev Inv-loop : tie.InvT-loop
-Inv-loop tags out₀ i₀ out i = (i ≤ 3) × (length out ≡ 3) × (map spanOf tags ≡ take i out ++ map spanOf (drop i tags))
+Inv-loop tags out₀ i₀ out i = (i ≤ tagLimit) × (length out ≡ tagLimit) × (map spanOf tags ≡ take i out ++ map spanOf (drop i tags))
 
 abbrev μ-loop : tie.MeasureT-loop
-μ-loop tags out₀ i₀ out i = 3 - i
+μ-loop tags out₀ i₀ out i = tagLimit - i
 
 loop-holds : tie.Need-loop-holds Inv-loop μ-loop
 loop-holds c = (omega arith, refl, refl)
