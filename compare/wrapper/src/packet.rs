@@ -2,6 +2,7 @@
 
 use crate::boundary::{self, Head, Net, Packet, Span, REFUSED, THERE};
 use crate::header::{Entry, HeaderSlice, Kind};
+use crate::options::{tcp_options, TcpOptionsIterator};
 use crate::refusal::Refusal;
 use std::fmt;
 use std::ops::Deref;
@@ -102,6 +103,13 @@ impl<'a> SlicedPacket<'a> {
             REFUSED => Err(Refusal::from_row(&reply.refusal)),
             other => unreachable!("no reply has the status {other}"),
         }
+    }
+
+    /// The TCP options; none where no TCP header was read.
+    pub fn tcp_options(&self) -> Option<TcpOptionsIterator<'a>> {
+        let header = self.transport.filter(|header| header.kind == Kind::Tcp)?;
+        // an accepted TCP header has 20 bytes at least: its data offset is 5 or more
+        Some(tcp_options(&header.slice[20..]))
     }
 
     fn new(frame: &'a [u8], reply: &Packet) -> SlicedPacket<'a> {

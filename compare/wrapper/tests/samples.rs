@@ -73,6 +73,21 @@ fn options() {
     assert_eq!(tcp_option(&[], 0), Ok(None));
 }
 
+/// IPv4 of total length 44 with a TCP header of 24 bytes, whose options are a maximum segment size.
+#[test]
+fn options_of_a_packet() {
+    let mut packet = [0; 44];
+    packet[0] = 0x45;
+    packet[3] = 44;
+    packet[9] = 6;
+    packet[32] = 0x60;
+    packet[40..].copy_from_slice(&[2, 4, 5, 0xb4]);
+    let sliced = SlicedPacket::from_ipv4(&packet).unwrap();
+    let kinds: Vec<_> = sliced.tcp_options().unwrap().map(|o| o.unwrap().kind).collect();
+    assert_eq!(kinds, [OptionKind::MaximumSegmentSize]);
+    assert!(SlicedPacket::from_ethernet(&f12()).unwrap().tcp_options().is_none());
+}
+
 #[test]
 fn checksum() {
     let sum = Sum16BitWords::new();
