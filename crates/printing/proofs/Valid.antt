@@ -1,0 +1,161 @@
+-- Every place that a walk comes to is one that `steps::next` takes. Assumes nothing.
+use Prim.Native.Nat.{ℕ, _+_, _≤_, _<_}
+use mathlib.Core.Path.{_≡_, refl, sym, ap, subst, _∙_}
+use mathlib.Core.List.{List}
+use mathlib.Core.Bool.{Bool, true, false}
+use native.Mathlib.Omega.{arith}
+use lib.ListN.{length}
+use lib.Dec.{eqb, ltb}
+use borrow.Author.Tests.{ltb-true, le-leb}
+use Rattle.rules.specs.declared.kind.Kind.{Kind}
+use Rattle.rules.specs.declared.kind.Kind.the-variants.{Ethernet2, Vlan, Ipv4, Ipv6, HopByHop, Routing, Destination, Fragment, Auth, Udp, Tcp}
+use Rattle.rules.specs.declared.place.Place.{Place}
+use Rattle.rules.specs.declared.place.Room.{Room}
+use Rattle.rules.specs.Bytes.{number}
+use Rattle.rules.specs.Numbers as N
+use Rattle.rules.specs.Test.{pick}
+use Rattle.rules.specs.Rules.{Turn, opens, stops, late, isTag, link, transport, chain4, chain6, turnOf}
+use Rattle.rules.specs.Place.{tagsWith, ipsWith, leaves, next, followOf, Found, reads, read, bytes, start}
+use Rattle.laws.specs.Reads.{foundAt, parts, onto, Ahead, goes}
+use Rattle.steps.specs.Places.{stepSays, steps}
+
+-- a link header stands before any IP header
+abbrev BeforeIp : Kind → ℕ → Type 0
+BeforeIp Ethernet2 n = n ≡ 0
+BeforeIp Vlan n = n ≡ 0
+BeforeIp Ipv4 n = Unit
+BeforeIp Ipv6 n = Unit
+BeforeIp HopByHop n = Unit
+BeforeIp Routing n = Unit
+BeforeIp Destination n = Unit
+BeforeIp Fragment n = Unit
+BeforeIp Auth n = Unit
+BeforeIp Udp n = Unit
+BeforeIp Tcp n = Unit
+
+pub record Valid (s : List ℕ) (p : Place) : Type 0 where
+  pub room-in : p .room .end ≤ length s
+  pub inside : p .at ≤ p .room .end
+  pub tags : p .room .tags ≤ N.tagLimit
+  pub ips : p .room .ips ≤ N.ipLimit
+  pub before : BeforeIp (p .kind) (p .room .ips)
+
+-- so `next` reads the header there
+pub says : {s : List ℕ} {p : Place} → Valid s p → stepSays s p ≡ steps (read s p)
+unfolding stepSays
+says v = rw (le-leb _ _ (v .room-in), le-leb _ _ (v .inside), le-leb _ _ (v .tags), le-leb _ _ (v .ips)) refl
+
+pub valid-first : (k : Kind) (s : List ℕ) → Valid s (start k s)
+unfolding start
+valid-first Ethernet2 s = record { room-in = omega arith; inside = omega arith; tags = omega arith; ips = omega arith; before = refl }
+valid-first Vlan s = record { room-in = omega arith; inside = omega arith; tags = omega arith; ips = omega arith; before = refl }
+valid-first Ipv4 s = record { room-in = omega arith; inside = omega arith; tags = omega arith; ips = omega arith; before = tt }
+valid-first Ipv6 s = record { room-in = omega arith; inside = omega arith; tags = omega arith; ips = omega arith; before = tt }
+valid-first HopByHop s = record { room-in = omega arith; inside = omega arith; tags = omega arith; ips = omega arith; before = tt }
+valid-first Routing s = record { room-in = omega arith; inside = omega arith; tags = omega arith; ips = omega arith; before = tt }
+valid-first Destination s = record { room-in = omega arith; inside = omega arith; tags = omega arith; ips = omega arith; before = tt }
+valid-first Fragment s = record { room-in = omega arith; inside = omega arith; tags = omega arith; ips = omega arith; before = tt }
+valid-first Auth s = record { room-in = omega arith; inside = omega arith; tags = omega arith; ips = omega arith; before = tt }
+valid-first Udp s = record { room-in = omega arith; inside = omega arith; tags = omega arith; ips = omega arith; before = tt }
+valid-first Tcp s = record { room-in = omega arith; inside = omega arith; tags = omega arith; ips = omega arith; before = tt }
+
+-- ---- what a turn opens
+
+-- it opens no more tags and IP headers than a frame may hold
+data Few (p : Room) : Turn → Type 0 where
+  opening : {k : Kind} → tagsWith k (p .tags) ≤ N.tagLimit → ipsWith k (p .ips) ≤ N.ipLimit → BeforeIp k (ipsWith k (p .ips)) → Few p (opens k)
+  stopping : {n : ℕ} → Few p (stops n)
+  refusing : Few p late
+
+either : {p : Room} (b : Bool) {t u : Turn} → Few p t → Few p u → Few p (pick b t u)
+either true a b = a
+either false a b = b
+
+module _ (p : Room) (tags : p .tags ≤ N.tagLimit) where
+  link-few : (n : ℕ) → p .ips ≡ 0 → Few p (link p n)
+  unfolding link
+  link-few n z =
+      either (isTag n) (go (ltb (p .tags) N.tagLimit) refl)
+      (either (eqb n N.ipv4Type) (opening {k = Ipv4} tags (omega arith) tt) (either (eqb n N.ipv6Type) (opening {k = Ipv6} tags (omega arith) tt) stopping))
+    where
+      go : (b : Bool) → ltb (p .tags) N.tagLimit ≡ b → Few p (pick b (opens Vlan) (stops N.tagsFull))
+      go true e = let y = ltb-true (p .tags) N.tagLimit e in opening {k = Vlan} (omega arith) (omega arith) z
+      go false e = stopping
+
+  module _ (ips : p .ips ≤ N.ipLimit) where
+    transport-few : (n : ℕ) → Few p (transport p n)
+    unfolding transport
+    transport-few n =
+        either (p .mark) stopping
+        (either (eqb n N.udpNumber) (opening tags ips tt) (either (eqb n N.tcpNumber) (opening tags ips tt) stopping))
+
+    chain6-few : (first : Bool) (n : ℕ) → Few p (chain6 first p n)
+    unfolding chain6
+    chain6-few first n =
+        either (eqb n N.hopByHopNumber) (either first (opening tags ips tt) refusing)
+        (either (eqb n N.routingNumber) (opening tags ips tt)
+        (either (eqb n N.destinationNumber) (opening tags ips tt)
+        (either (eqb n N.fragmentNumber) (opening tags ips tt)
+        (either (eqb n N.authNumber) (opening tags ips tt) (transport-few n)))))
+
+    turn-few : (k : Kind) (g : ℕ → ℕ) → BeforeIp k (p .ips) → Few p (turnOf k g p)
+    unfolding turnOf chain4
+    turn-few Ethernet2 g z = link-few (number 2 g 12) z
+    turn-few Vlan g z = link-few (number 2 g 2) z
+    turn-few Ipv4 g z = either (eqb (g 9) N.authNumber) (opening tags ips tt) (transport-few (g 9))
+    turn-few Ipv6 g z = chain6-few true (g 6)
+    turn-few HopByHop g z = chain6-few false (g 0)
+    turn-few Routing g z = chain6-few false (g 0)
+    turn-few Destination g z = chain6-few false (g 0)
+    turn-few Fragment g z = chain6-few false (g 0)
+    turn-few Auth g z = either (eqb (p .version) 4) (transport-few (g 0)) (chain6-few false (g 0))
+    turn-few Udp g z = stopping
+    turn-few Tcp g z = stopping
+
+-- ---- the next place
+
+record Opened (p : Room) (k : Kind) : Type 0 where
+  tags : tagsWith k (p .tags) ≤ N.tagLimit
+  ips : ipsWith k (p .ips) ≤ N.ipLimit
+  before : BeforeIp k (ipsWith k (p .ips))
+
+opened : {p : Room} {t : Turn} {k : Kind} → Few p t → t ≡ opens k → Opened p k
+opened {p} {k = k} (opening {k = j} a b c) e = let z : j ≡ k = cc in subst (Opened p) z (record { tags = a; ips = b; before = c })
+opened stopping e = absurd (let z : _≡_ {A = ℕ} 0 1 = cc in omega arith)
+opened refusing e = absurd (let z : _≡_ {A = ℕ} 0 1 = cc in omega arith)
+
+-- the room that a header leaves has the same tags and IP headers
+record Kept (q p : Room) : Type 0 where
+  tags : q .tags ≡ p .tags
+  ips : q .ips ≡ p .ips
+
+kept : (k : Kind) (g : ℕ → ℕ) (at : ℕ) (p : Room) → Kept (leaves k g at p) p
+unfolding leaves
+kept Ethernet2 g at p = record { tags = refl; ips = refl }
+kept Vlan g at p = record { tags = refl; ips = refl }
+kept Ipv4 g at p = record { tags = refl; ips = refl }
+kept Ipv6 g at p = record { tags = refl; ips = refl }
+kept HopByHop g at p = record { tags = refl; ips = refl }
+kept Routing g at p = record { tags = refl; ips = refl }
+kept Destination g at p = record { tags = refl; ips = refl }
+kept Fragment g at p = record { tags = refl; ips = refl }
+kept Auth g at p = record { tags = refl; ips = refl }
+kept Udp g at p = record { tags = refl; ips = refl }
+kept Tcp g at p = record { tags = refl; ips = refl }
+
+pub valid-next : {s : List ℕ} {p q : Place} {x : Found} → Valid s p → read s p ≡ reads x → x .follow ≡ next q → Valid s q
+unfolding followOf
+valid-next {s} {p} {q} v e f =
+    let a = goes s p e f in
+    let z = parts s p e in
+    let n = onto _ _ _ _ _ (ap (λ (y : Found). y .follow) (sym (z .found)) ∙ f) in
+    let k = kept (p .kind) (bytes s p) (p .at) (p .room) in
+    let few = turn-few (leaves (p .kind) (bytes s p) (p .at) (p .room)) (rw (k .tags) (v .tags)) (rw (k .ips) (v .ips)) (p .kind) (bytes s p) (rw (k .ips) (v .before)) in
+    let o = opened few (n .opened) in
+    record {
+      room-in = omega (arith, v .room-in, a .inside);
+      inside = a .room;
+      tags = rw (n .entering) (o .tags);
+      ips = rw (n .entering) (o .ips);
+      before = rw (n .entering) (o .before);
+    }

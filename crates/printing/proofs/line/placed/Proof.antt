@@ -1,0 +1,83 @@
+-- `line::placed` meets its contract. Assumes nothing.
+use Rattle.printing.proofs.Pieces.{wrote-word}
+use borrow.Author.Tests.{eq-eqb, ne-eqb}
+use borrow.Author.Needs.{needs}
+use Rattle.printing.proofs.line.placed.Statement.{statement}
+use Rattle.printing.proofs.line.placed.Tie as tie
+
+number-requires : tie.Need-number-requires
+number-requires c κs = search needs
+
+array-read-too-short : tie.Need-array-read-too-short
+array-read-too-short c = search needs
+
+array-read-too-short-2 : tie.Need-array-read-too-short-2
+array-read-too-short-2 c = search needs
+
+array-read-too-short-3 : tie.Need-array-read-too-short-3
+array-read-too-short-3 c = search needs
+
+too-short-requires : tie.Need-too-short-requires
+too-short-requires c κs = search needs
+
+same-length : tie.Need-same-length
+same-length c = search needs
+
+returns : tie.Need-returns
+returns c = rw (eq-eqb _ 1 (c .before .before .before .before .before .before .before .before .if1 .taken)) (wrote-word (c .before .before .before .before .before .before .number .ensures) (c .before .before .too-short .ensures))
+
+number-requires-2 : tie.Need-number-requires-2
+number-requires-2 c κs = search needs
+
+same-length-2 : tie.Need-same-length-2
+same-length-2 c = search needs
+
+returns-2 : tie.Need-returns-2
+returns-2 c = rw (ne-eqb _ 1 (c .before .before .before .before .before .before .if1 .left), eq-eqb _ 5 (c .before .before .before .before .if2 .taken)) (c .before .before .number2 .ensures .wrote)
+
+number-requires-3 : tie.Need-number-requires-3
+number-requires-3 c κs = search needs
+
+same-length-3 : tie.Need-same-length-3
+same-length-3 c = search needs
+
+returns-3 : tie.Need-returns-3
+returns-3 c = rw (ne-eqb _ 1 (c .before .before .before .before .before .before .before .before .if1 .left), ne-eqb _ 5 (c .before .before .before .before .before .before .if2 .left), eq-eqb _ 6 (c .before .before .before .before .if3 .taken)) (c .before .before .number3 .ensures .wrote)
+
+number-requires-4 : tie.Need-number-requires-4
+number-requires-4 c κs = search needs
+
+array-read-number : tie.Need-array-read-number
+array-read-number c = search needs
+
+number-requires-5 : tie.Need-number-requires-5
+number-requires-5 c κs = search needs
+
+same-length-4 : tie.Need-same-length-4
+same-length-4 c = search needs
+
+returns-4 : tie.Need-returns-4
+returns-4 c = rw (ne-eqb _ 1 (c .before .before .before .before .before .before .before .before .before .before .before .before .if1 .left), ne-eqb _ 5 (c .before .before .before .before .before .before .before .before .before .before .if2 .left), ne-eqb _ 6 (c .before .before .before .before .before .before .before .before .if3 .left)) (wrote-word (c .before .before .before .before .before .before .number4 .ensures) (c .before .before .number5 .ensures .wrote))
+
+pub placed-spec : {M : Type 1} → statement M
+placed-spec =
+    tie.close
+    (tie.spec
+    number-requires
+    array-read-too-short
+    array-read-too-short-2
+    array-read-too-short-3
+    too-short-requires
+    same-length
+    returns
+    number-requires-2
+    same-length-2
+    returns-2
+    number-requires-3
+    same-length-3
+    returns-3
+    number-requires-4
+    array-read-number
+    number-requires-5
+    same-length-4
+    returns-4)

@@ -1,0 +1,48 @@
+-- `print` meets its contract. Assumes nothing.
+use mathlib.Core.Path.{refl}
+use borrow.Author.Needs.{needs}
+use Rattle.printing.proofs.Pieces.{wrote-all}
+use Rattle.printing.proofs.Replies.{reply-accepts, reply-refuses}
+use Rattle.printing.proofs.print.Statement.{statement}
+use Rattle.printing.proofs.print.Tie as tie
+
+outcome-requires : tie.Need-outcome-requires
+outcome-requires c κs = search needs
+
+enum-told : tie.Need-enum-told
+enum-told c = search needs
+
+accepted-lines-requires : tie.Need-accepted-lines-requires
+accepted-lines-requires c κs = reply-accepts _ _ (c .before .before .before .outcome .result) (c .before .before .before .outcome .ensures) (c .before .enum-told .given .1)
+
+enum-known-ended : tie.Need-enum-known-ended
+enum-known-ended c = search needs
+
+refused-line-requires : tie.Need-refused-line-requires
+refused-line-requires c κs = search needs
+
+same-length : tie.Need-same-length
+same-length c = search needs
+
+returns : tie.Need-returns
+returns c = let z = wrote-all (c .before .before .accepted-lines .ensures) in (z .0, (z .1, refl))
+
+same-length-2 : tie.Need-same-length-2
+same-length-2 c = search needs
+
+returns-2 : tie.Need-returns-2
+returns-2 c = let z = wrote-all (rw (reply-refuses _ _ (c .before .before .before .before .before .before .before .outcome .result) (c .before .before .before .before .before .before .before .outcome .ensures) (c .before .before .before .before .before .ended .given .1)) at (c .before .before .refused-line .ensures)) in (z .0, (z .1, refl))
+
+pub print-spec : {M : Type 1} → statement M
+print-spec =
+    tie.close
+    (tie.spec
+    outcome-requires
+    enum-told
+    accepted-lines-requires
+    enum-known-ended
+    refused-line-requires
+    same-length
+    returns
+    same-length-2
+    returns-2)

@@ -1,0 +1,30 @@
+// How many cases were compared and how many were the same, counted as they are compared.
+
+pub struct Tally {
+    pub compared: u64,
+    pub same: u64,
+}
+
+impl Tally {
+    pub fn new() -> Self {
+        Tally {
+            compared: 0,
+            same: 0,
+        }
+    }
+
+    // Wrapping sums, because they ask for no proof that a list stays below 2 to the 64.
+    pub fn counted(self, same: bool) -> Self {
+        let compared = std::num::wrapping_add_u64(self.compared, 1);
+        if same {
+            return Tally {
+                compared,
+                same: std::num::wrapping_add_u64(self.same, 1),
+            };
+        }
+        Tally {
+            compared,
+            same: self.same,
+        }
+    }
+}
