@@ -59,5 +59,5 @@ compile() {
     kind=$1 name=$2 file=$3 to=$4
     shift 4
     "$rustc" --edition 2021 --crate-type "$kind" --crate-name "$name" -C opt-level=3 --target $TARGET -C "linker=$cc" \
-        --check-cfg 'cfg(shown)' "$@" "$file" -o "$to" || die "$name doesn't compile"
+        --check-cfg 'cfg(shown, test)' "$@" "$file" -o "$to" || die "$name doesn't compile"
 }
