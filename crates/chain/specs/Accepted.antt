@@ -11,7 +11,7 @@ use Rattle.rules.specs.declared.stop.Ending.{Ending}
 use Rattle.slicer.specs.declared.packet.Outcome.{Outcome}
 use Rattle.slicer.specs.declared.packet.Outcome.the-variants as O
 use Rattle.slicer.specs.declared.packet.SlicedPacket.{SlicedPacket}
-use Rattle.slicer.specs.Reply.{outcomeOnPaper, packetOnPaper, nothing, Ended, Reply, sliceWay, acceptedBy, replyOf}
+use Rattle.slicer.specs.Reply.{outcomeOnPaper, packetOnPaper, nothing, Reply, sliceWay, acceptedBy, replyOf}
 use Rattle.slicer.specs.Reply as P
 use Rattle.chain.specs.Chain.{ChainOf}
 use Rattle.chain.specs.Walked.{Walked, whole-walk, broken-walk, walked, chain→slices}

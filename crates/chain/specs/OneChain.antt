@@ -5,7 +5,7 @@ use mathlib.Core.List.{List}
 use Rattle.rules.specs.declared.place.Place.{Place}
 use Rattle.rules.specs.declared.refusal.Row.{Row}
 use Rattle.rules.specs.Place.{Stopped}
-use Rattle.rules.specs.Walk.{Trace, accepted, refused, Entry}
+use Rattle.rules.specs.Walk.{Entry}
 use native.Mathlib.Omega.{arith}
 use Rattle.chain.specs.Chain.{Chain}
 use Rattle.chain.specs.Broken.{Broken}

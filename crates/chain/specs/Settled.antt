@@ -1,7 +1,7 @@
 -- "Each public answer is settled by its input alone, refusals with all that they carry included. Prove that no second answer
 -- satisfies the same contract": a statement for each public function. Of two answers x and y that both satisfy its `ensures`, x ≡ y.
 use Prim.Native.Nat.{ℕ}
-use mathlib.Core.Path.{_≡_, refl, sym, ap, _∙_}
+use mathlib.Core.Path.{_≡_, refl, sym, _∙_}
 use mathlib.Core.Bool.{Bool, false}
 use mathlib.Core.List.{List, []}
 use Rattle.rules.specs.declared.kind.Kind.{Kind}
