@@ -11,7 +11,7 @@ use Rattle.rules.specs.declared.stop.Ending.{Ending}
 use Rattle.slicer.specs.declared.packet.Outcome.{Outcome}
 use Rattle.slicer.specs.declared.packet.Outcome.the-variants as O
 use Rattle.slicer.specs.declared.packet.SlicedPacket.{SlicedPacket}
-use Rattle.slicer.specs.Reply.{outcomeOnPaper, packetOnPaper, nothing, Ended, Reply, sliceWay, acceptedBy, replyOf}
+use Rattle.slicer.specs.Reply.{outcomeOnPaper, packetOnPaper, nothing, Reply, sliceWay, acceptedBy, replyOf}
 use Rattle.slicer.specs.Reply as P
 use Rattle.chain.specs.Chain.{ChainOf}
 use Rattle.chain.specs.Walked.{Walked, whole-walk, broken-walk, walked, chain→slices}
@@ -21,11 +21,11 @@ use Rattle.chain.specs.Answers.{Sliced}
 abbrev pub HasChain : Given → List ℕ → List Entry → Stopped → Type 0
 HasChain entry s hs x = ChainOf (entryKind entry) s hs x
 
--- what is said of a reply r: where there is a chain it is accepted, with the chain's stop; where it is accepted there is a chain,
--- with the stop that it tells
-pub record AcceptedIffChain (entry : Given) (s : List ℕ) (r : SlicedPacket) : Type 0 where
-  pub accepts : (hs : List Entry) (x : Stopped) → HasChain entry s hs x → (e : Ending) × (r .outcome ≡ O.Accepted e) × (endingOnPaper e ≡ x)
-  pub chained : (e : Ending) → r .outcome ≡ O.Accepted e → (hs : List Entry) × HasChain entry s hs (endingOnPaper e)
+-- what is said of a reply's outcome o: where there is a chain it is accepted, with the chain's stop; where it is accepted there is a
+-- chain, with the stop that it tells
+pub record AcceptedIffChain (entry : Given) (s : List ℕ) (o : Outcome) : Type 0 where
+  pub accepts : (hs : List Entry) (x : Stopped) → HasChain entry s hs x → (e : Ending) × (o ≡ O.Accepted e) × (endingOnPaper e ≡ x)
+  pub chained : (e : Ending) → o ≡ O.Accepted e → (hs : List Entry) × HasChain entry s hs (endingOnPaper e)
 
 -- the whole reply of a frame with a chain: the stop is the chain's, and the parts are gathered from its headers
 pub chain→reply : (entry : Given) (s : List ℕ) {hs : List Entry} {x : Stopped} (r : SlicedPacket) → Sliced entry s r → HasChain entry s hs x
@@ -54,5 +54,5 @@ accepted→chain entry s r {e} q o = go (walked (entryKind entry) s) (sym (ap ou
     go (broken-walk b) y = let w : _≡_ {A = ℕ} 0 1 = cc in absurd (omega arith)
 
 -- every answer of `slice` is so
-pub accepted-iff-chain : (entry : Given) (s : List ℕ) (r : SlicedPacket) → Sliced entry s r → AcceptedIffChain entry s r
+pub accepted-iff-chain : (entry : Given) (s : List ℕ) (r : SlicedPacket) → Sliced entry s r → AcceptedIffChain entry s (r .outcome)
 accepted-iff-chain entry s r q = record { accepts = λ hs x c. chain→accepted entry s r q c; chained = λ e o. accepted→chain entry s r q o }

@@ -5,7 +5,7 @@ use mathlib.Core.List.{List, [], _∷_}
 use mathlib.Core.Bool.{Bool, true, false}
 use native.Mathlib.Omega.{arith}
 use native.Mathlib.Nat.{sub-zero, zero-sub, suc-sub-suc}
-use lib.ListN.{length, getD, take, drop, length-take, List·getD-eq-default}
+use lib.ListN.{getD, take, drop, length-take, List·getD-eq-default}
 use lib.Seq.{getD-drop, getD-take, take-nil, take-take}
 use lib.Dec.{ltb, eqb}
 use borrow.Author.Tests.{ltb-true, ltb-false, eqb-true}

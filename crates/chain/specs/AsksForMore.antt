@@ -1,6 +1,6 @@
 -- "Each short-length refusal asks for more than there was."
-use Prim.Native.Nat.{ℕ, _≤_, _<_, _-_}
-use mathlib.Core.Path.{_≡_, refl, sym, ap, _∙_}
+use Prim.Native.Nat.{ℕ, _<_, _-_}
+use mathlib.Core.Path.{_≡_, refl}
 use mathlib.Core.List.{List, [], _∷_}
 use native.Mathlib.Omega.{arith}
 use Rattle.rules.specs.declared.kind.Kind.{Kind}
@@ -15,7 +15,6 @@ use Rattle.rules.specs.declared.refusal.Row.{Row}
 use Rattle.rules.specs.Numbers.{tooShort}
 use Rattle.rules.specs.Test.{Test, fits, least, same, Failure, short, other, placed}
 use Rattle.rules.specs.Rules.{tests, testsBy}
-use Rattle.rules.specs.Paper.{refusalOnPaper}
 use Rattle.rules.specs.Place.{bytes}
 use Rattle.rules.specs.Walk.{Entry}
 use Rattle.rules.specs.declared.entry.Entry.{Entry as Given}

@@ -1,11 +1,8 @@
 -- From the paper back to the answer: every answer can be read off its numbers and values, so no two answers have the same.
 use Prim.Native.Nat.{ℕ}
 use mathlib.Core.Path.{_≡_, refl, sym, ap, _∙_}
-use mathlib.Core.List.{List}
 use lib.ListN.{getD}
 use lib.Dec.{eqb}
-use Rattle.rules.specs.declared.ether_type.EtherType.{EtherType}
-use Rattle.rules.specs.declared.kind.Source.{Source}
 use Rattle.rules.specs.declared.kind.Source.the-variants as S
 use Rattle.rules.specs.declared.place.Header.{Header}
 use Rattle.rules.specs.declared.refusal.Fault.{Fault}
@@ -13,36 +10,30 @@ use Rattle.rules.specs.declared.refusal.Fault.the-variants as F
 use Rattle.rules.specs.declared.refusal.Refusal.{Refusal}
 use Rattle.rules.specs.declared.refusal.Refusal.the-variants as R
 use Rattle.rules.specs.declared.refusal.Row.{Row}
-use Rattle.rules.specs.declared.stop.Stop.{Stop}
 use Rattle.rules.specs.declared.stop.Stop.the-variants as T
 use Rattle.rules.specs.Test.{pick, sourceNumber, Failure, short, other, Outcome, whole, failed}
 use Rattle.rules.specs.Paper.{stopNumber, faultOnPaper, refusalOnPaper}
-use Rattle.rules.specs.Place.{Stopped, endingOnPaper}
+use Rattle.rules.specs.Rules as W
+use Rattle.rules.specs.Place.{endingOnPaper}
 use Rattle.rules.specs.Walk.{Answer, is, no-more, refusal}
-use Rattle.headers.specs.declared.link.LinkRead.{LinkRead}
 use Rattle.headers.specs.declared.link.LinkRead.the-variants as HL
-use Rattle.headers.specs.declared.net.IpHeader.{IpHeader}
-use Rattle.headers.specs.declared.net.IpRead.{IpRead}
 use Rattle.headers.specs.declared.net.IpRead.the-variants as HI
-use Rattle.headers.specs.declared.net.ExtHeader.{ExtHeader}
-use Rattle.headers.specs.declared.net.ExtRead.{ExtRead}
 use Rattle.headers.specs.declared.net.ExtRead.the-variants as HE
-use Rattle.headers.specs.declared.transport.TransportHeader.{TransportHeader}
 use Rattle.headers.specs.declared.transport.TransportRead.{TransportRead}
 use Rattle.headers.specs.declared.transport.TransportRead.the-variants as HT
 use Rattle.headers.specs.Says.{linkOnPaper, ipOnPaper, extOnPaper, transportOnPaper}
-use Rattle.rules.specs.declared.place.Range.{Range}
-use Rattle.rules.specs.declared.stop.Ending.{Ending}
+use Rattle.turns.specs.declared.turn.Turn.{Turn}
+use Rattle.turns.specs.declared.turn.Turn.the-variants as U
+use Rattle.turns.specs.Turns.{turnOnPaper}
 use Rattle.slicer.specs.declared.packet.Outcome.{Outcome as Ends}
 use Rattle.slicer.specs.declared.packet.Outcome.the-variants as O
-use Rattle.slicer.specs.declared.packet.SlicedPacket.{SlicedPacket}
 use Rattle.steps.specs.declared.list.HeaderAnswer.{HeaderAnswer}
 use Rattle.steps.specs.declared.list.HeaderAnswer.the-variants as H
 use Rattle.steps.specs.declared.list.CountAnswer.{CountAnswer}
 use Rattle.steps.specs.declared.list.CountAnswer.the-variants as C
 use Rattle.steps.specs.declared.place.Step.{Step}
 use Rattle.steps.specs.declared.place.Step.the-variants as N
-use Rattle.slicer.specs.Reply.{Ended, accepted, refused, Reply, outcomeOnPaper, packetOnPaper}
+use Rattle.slicer.specs.Reply.{Ended, accepted, refused, outcomeOnPaper, packetOnPaper}
 use Rattle.steps.specs.Lists.{headerOnPaper, countOnPaper}
 use Rattle.steps.specs.Places.{Stepped, stepOnPaper}
 use Rattle.steps.specs.Places as P
@@ -194,3 +185,14 @@ stepOf P.not-a-place = N.NotAPlace
 pub step-back : Back stepOnPaper
 unfolding stepOf
 step-back = record { back = stepOf; same = elim [ N.Next len p ↦ refl | N.Last len e ↦ ap (N.Last len) (ending-back .same e) | N.Refused q ↦ ap N.Refused (refusal-same q) | N.NotAPlace ↦ refl ] }
+
+-- ---- where a number leads
+
+turnOf : W.Turn → Turn
+turnOf (W.opens k) = U.Opens k
+turnOf (W.stops n) = U.Stops (stop-back .back n)
+turnOf W.late = U.Late
+
+pub turn-back : Back turnOnPaper
+unfolding turnOf
+turn-back = record { back = turnOf; same = elim [ U.Opens k ↦ refl | U.Stops s ↦ ap U.Stops (stop-back .same s) | U.Late ↦ refl ] }

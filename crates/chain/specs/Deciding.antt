@@ -5,10 +5,10 @@ use mathlib.Core.List.{List}
 use lib.ListN.{length}
 use Rattle.rules.specs.declared.kind.Kind.{Kind}
 use Rattle.rules.specs.declared.place.Place.{Place}
-use Rattle.rules.specs.Place.{Found, next, bytes, outcome, read, start, entryKind}
+use Rattle.rules.specs.Place.{Found, bytes, outcome, read, start, entryKind}
 use Rattle.rules.specs.Walk.{Trace, Entry, step, walk, trace, headerOf, countOf, slices}
 use Rattle.laws.specs.Gather.{gathered}
-use Rattle.laws.specs.Reads.{foundAt, Parts, parts}
+use Rattle.laws.specs.Reads.{parts}
 use Rattle.laws.specs.Walks.{step-same}
 use Rattle.rules.specs.declared.entry.Entry.{Entry as Given}
 use Rattle.slicer.specs.declared.packet.SlicedPacket.{SlicedPacket}

@@ -12,13 +12,12 @@ use Rattle.rules.specs.declared.kind.Kind.the-variants.{Ethernet2, Vlan, Ipv4, 
 use Rattle.rules.specs.declared.place.Place.{Place}
 use Rattle.rules.specs.Place.{start, entryKind}
 use Rattle.rules.specs.Walk.{Trace, accepted, refused, unfinished, Entry, header, is, nth, headerOf, countOf, slices}
-use Rattle.laws.specs.Gather.{Way, gathered, listed}
+use Rattle.laws.specs.Gather.{gathered, listed}
 use Rattle.rules.specs.declared.entry.Entry.{Entry as Given}
 use Rattle.slicer.specs.declared.packet.SlicedPacket.{SlicedPacket}
 use Rattle.steps.specs.declared.list.HeaderAnswer.{HeaderAnswer}
 use Rattle.steps.specs.declared.list.CountAnswer.{CountAnswer}
-use Rattle.slicer.specs.Reply.{packetOnPaper, replyOf, Parts, Reply, sliceWay, nothing, put}
-use Rattle.chain.specs.Agree.{ending}
+use Rattle.slicer.specs.Reply.{replyOf, Parts, sliceWay, nothing, put}
 use Rattle.chain.specs.Twins.{Links, Declares, shown, endingIn, declared-length}
 use Rattle.chain.specs.Answers.{Sliced, HeaderIs, CountIs}
 use Rattle.chain.specs.Back.{settled-by, packet-back, header-back, count-back}

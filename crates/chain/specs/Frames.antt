@@ -1,10 +1,9 @@
 -- Document 01's starred frames, F1 to F10, in one table under one claim, by computation; besides them F12, the 60-byte line and the
 -- first byte 0x54. Bytes that the paper leaves open are zero.
 use Prim.Native.Nat.{ℕ, _+_, _*_, _/_, _%_}
-use mathlib.Core.Path.{_≡_, refl, ap, _∙_}
+use mathlib.Core.Path.{_≡_, refl, ap}
 use mathlib.Core.List.{List, [], _∷_, _++_, map}
 use lib.ListN.{replicate}
-use Rattle.rules.specs.declared.kind.Kind.{Kind}
 use Rattle.rules.specs.declared.kind.Kind.the-variants.{Ethernet2, Vlan, Ipv4, Ipv6, HopByHop, Auth, Udp, Tcp}
 use Rattle.rules.specs.declared.kind.Layer.{Layer}
 use Rattle.rules.specs.declared.kind.Layer.the-variants.{Of, Ipv4Packet}
@@ -12,10 +11,9 @@ use Rattle.rules.specs.declared.kind.Source.{Source}
 use Rattle.rules.specs.declared.kind.Source.the-variants as S
 use Rattle.rules.specs.declared.place.Number.{Number}
 use Rattle.rules.specs.declared.place.Number.the-variants.{Link, Ip}
-use Rattle.rules.specs.declared.refusal.Row.{Row as Refused}
 use Rattle.rules.specs.Test.{sourceNumber, row, judge}
 use Rattle.rules.specs.Rules.{etherType, ipNumber, isTag, link, transport, chain4, chain6, lengthOf, declaredOf, marksOf, namesOf, turnOf, payloadOf, seenBy, testsBy}
-use Rattle.rules.specs.Place.{Stopped, leaves, follow, followOf, bytes, outcome, read, start}
+use Rattle.rules.specs.Place.{leaves, follow, followOf, bytes, outcome, read, start}
 use Rattle.rules.specs.Walk.{walk, trace, slices}
 use Rattle.laws.specs.Gather.{gathered, listed}
 use Rattle.checksum.specs.Sum.{total, totals, fold, answer, noZero}

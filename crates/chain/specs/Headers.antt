@@ -5,11 +5,10 @@ use mathlib.Core.Path.{_≡_, refl, sym, ap, _∙_}
 use mathlib.Core.List.{List, [], _∷_, map}
 use native.Mathlib.Omega.{arith}
 use lib.ListN.{length}
-use Rattle.rules.specs.declared.kind.Kind.{Kind}
 use Rattle.rules.specs.declared.place.Header.{Header}
 use Rattle.rules.specs.declared.place.Place.{Place}
 use Rattle.rules.specs.Place.{Stopped, bytes, entryKind}
-use Rattle.rules.specs.Walk.{Trace, Entry, header, Answer, is, no-more, refusal, nth, headerOf, countOf, slices}
+use Rattle.rules.specs.Walk.{Trace, Entry, header, is, no-more, nth, headerOf, countOf}
 use Rattle.laws.specs.Kinds.{sized}
 use Rattle.rules.specs.declared.entry.Entry.{Entry as Given}
 use Rattle.steps.specs.declared.list.HeaderAnswer.{HeaderAnswer}
@@ -17,7 +16,7 @@ use Rattle.steps.specs.declared.list.HeaderAnswer.the-variants as H
 use Rattle.steps.specs.declared.list.CountAnswer.{CountAnswer}
 use Rattle.steps.specs.declared.list.CountAnswer.the-variants as C
 use Rattle.steps.specs.Lists.{headerOnPaper, countOnPaper}
-use Rattle.chain.specs.Chain.{entryAt, Stands, Leads, Chain, last, more}
+use Rattle.chain.specs.Chain.{entryAt, Chain, last, more}
 use Rattle.chain.specs.Accepted.{HasChain}
 use Rattle.chain.specs.Walked.{Walked, whole-walk, broken-walk, walked, chain→slices}
 use Rattle.chain.specs.Answers.{HeaderIs, CountIs}

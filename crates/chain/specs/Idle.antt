@@ -1,16 +1,16 @@
 -- Document 01: "These idle versions have to be caught". Each is ruled out by demand 3's statement itself, shown on a frame or two.
 use Prim.Native.Nat.{ℕ, _+_}
-use mathlib.Core.Path.{_≡_, refl, sym, ap, _∙_}
+use mathlib.Core.Path.{_≡_, refl}
 use mathlib.Core.List.{List, [], _∷_, _++_}
 use native.Mathlib.Omega.{arith}
-use lib.ListN.{length, replicate}
+use lib.ListN.{replicate}
 use Rattle.rules.specs.declared.kind.Kind.the-variants.{Ethernet2}
 use Rattle.rules.specs.declared.place.Header.{Header}
 use Rattle.rules.specs.declared.refusal.Refusal.{Refusal}
 use Rattle.rules.specs.Test.{judge}
 use Rattle.rules.specs.Rules.{isTag, link, lengthOf, marksOf, namesOf, turnOf, payloadOf, seenBy, testsBy}
 use Rattle.rules.specs.Place.{Stopped, leaves, follow, followOf, bytes, outcome, read, start}
-use Rattle.rules.specs.Walk.{Trace, accepted, refused, Entry, walk, trace}
+use Rattle.rules.specs.Walk.{Entry, walk, trace}
 use Rattle.rules.specs.declared.entry.Entry.the-variants as E
 use Rattle.rules.specs.declared.stop.Ending.{Ending}
 use Rattle.slicer.specs.declared.packet.Outcome.{Outcome}
@@ -18,13 +18,12 @@ use Rattle.slicer.specs.declared.packet.Outcome.the-variants as O
 use Rattle.slicer.specs.declared.packet.SlicedPacket.{SlicedPacket}
 use Rattle.steps.specs.declared.list.HeaderAnswer.{HeaderAnswer}
 use Rattle.steps.specs.declared.list.HeaderAnswer.the-variants as H
-use Rattle.steps.specs.declared.list.CountAnswer.{CountAnswer}
 use Rattle.steps.specs.declared.list.CountAnswer.the-variants as C
 use Rattle.chain.specs.Chain.{ChainOf}
 use Rattle.chain.specs.Walked.{Means, trace-means}
 use Rattle.chain.specs.OneChain.{not-both}
 use Rattle.chain.specs.Accepted.{AcceptedIffChain}
-use Rattle.chain.specs.Headers.{At, here, later, HeadersInOrder, CountIsLength}
+use Rattle.chain.specs.Headers.{here, later, HeadersInOrder, CountIsLength}
 
 -- ---- three frames: 13 bytes; 14 bytes of type 0; one tag of type 0
 
@@ -51,7 +50,7 @@ two-headers = (_, _, _, means tagged)
 
 -- ---- "one that refuses everything (demand 3: a frame with a chain is accepted)"
 
-pub refuses-everything : (slice : List ℕ → SlicedPacket) → ((s : List ℕ) → (q : Refusal) × (slice s .outcome ≡ O.Refused q)) → ((s : List ℕ) → AcceptedIffChain E.Ethernet s (slice s)) → ⊥
+pub refuses-everything : (slice : List ℕ → SlicedPacket) → ((s : List ℕ) → (q : Refusal) × (slice s .outcome ≡ O.Refused q)) → ((s : List ℕ) → AcceptedIffChain E.Ethernet s (slice s .outcome)) → ⊥
 refuses-everything slice idle true-of =
     let a = true-of (zeros 14) .accepts _ _ (one-header .2) in
     differ (slice (zeros 14) .outcome) (a .1) (idle (zeros 14) .1)
@@ -61,7 +60,7 @@ refuses-everything slice idle true-of =
 
 -- ---- "one fixed reply .. (demand 3's list, over demand 2's header rules)": accepted once, it would accept a frame with no chain
 
-pub one-fixed-reply : (r : SlicedPacket) → ((s : List ℕ) → AcceptedIffChain E.Ethernet s r) → ⊥
+pub one-fixed-reply : (r : SlicedPacket) → ((s : List ℕ) → AcceptedIffChain E.Ethernet s (r .outcome)) → ⊥
 one-fixed-reply r true-of =
     let a = true-of (zeros 14) .accepts _ _ (one-header .2) in
     no-chain (true-of (zeros 13) .chained (a .0) (a .1) .1)

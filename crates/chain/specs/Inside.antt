@@ -1,8 +1,8 @@
 -- What a caller may rely on when it takes bytes by an answer's offsets: headers, payload and refused offset lie in the frame, and
 -- the stop's number is one of 1 to 5.
 use Prim.Native.Nat.{ℕ, _≤_, _+_, _-_}
-use mathlib.Core.Path.{_≡_, refl, sym, ap, _∙_, subst}
-use mathlib.Core.List.{List, [], _∷_}
+use mathlib.Core.Path.{_≡_, refl}
+use mathlib.Core.List.{List, []}
 use mathlib.Core.Bool.{Bool, true, false}
 use native.Mathlib.Omega.{arith}
 use lib.ListN.{length}
@@ -18,9 +18,9 @@ use Rattle.rules.specs.Test.{pick, Failure, short, other, placed}
 use Rattle.rules.specs.Rules.{Turn, opens, stops, late, isTag, link, transport, chain4, chain6, turnOf, payloadOf, testsBy}
 use Rattle.rules.specs.Place.{Stopped, leaves, bytes, start}
 use Rattle.rules.specs.Walk.{Entry}
-use Rattle.laws.specs.Kinds.{Passes, sized}
+use Rattle.laws.specs.Kinds.{Passes}
 use Rattle.laws.specs.Reads.{ahead}
-use Rattle.chain.specs.Chain.{roomAt, pastAt, Stands, Leads, Stops, Chain, last, more, ChainOf}
+use Rattle.chain.specs.Chain.{roomAt, Chain, last, more, ChainOf}
 use Rattle.chain.specs.Broken.{Broken, fails, late-hop, more as broken-more, BrokenOf}
 use Rattle.chain.specs.Walked.{one-next}
 use Rattle.chain.specs.Headers.{At, here, later}

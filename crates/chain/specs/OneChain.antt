@@ -5,7 +5,7 @@ use mathlib.Core.List.{List}
 use Rattle.rules.specs.declared.place.Place.{Place}
 use Rattle.rules.specs.declared.refusal.Row.{Row}
 use Rattle.rules.specs.Place.{Stopped}
-use Rattle.rules.specs.Walk.{Trace, accepted, refused, Entry}
+use Rattle.rules.specs.Walk.{Entry}
 use native.Mathlib.Omega.{arith}
 use Rattle.chain.specs.Chain.{Chain}
 use Rattle.chain.specs.Broken.{Broken}
@@ -14,6 +14,6 @@ use Rattle.chain.specs.Walked.{chain→trace, broken→trace}
 pub one-chain : {s : List ℕ} {p : Place} {hs hs′ : List Entry} {x x′ : Stopped} → Chain s p hs x → Chain s p hs′ x′ → (hs ≡ hs′) × (x ≡ x′)
 one-chain a b = let z = sym (chain→trace a) ∙ chain→trace b in (cc, cc)
 
--- and a frame that has one is not refused
+-- and a frame that has a chain is not refused
 pub not-both : {s : List ℕ} {p : Place} {hs hs′ : List Entry} {x : Stopped} {r : Row} → Chain s p hs x → Broken s p hs′ r → ⊥
 not-both a b = let z = sym (chain→trace a) ∙ broken→trace b in let y : _≡_ {A = ℕ} 0 1 = cc in omega arith

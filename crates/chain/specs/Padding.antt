@@ -4,7 +4,6 @@ use mathlib.Core.Path.{_≡_, refl, sym, ap, _∙_}
 use mathlib.Core.List.{List}
 use mathlib.Core.Bool.{Bool, true, false}
 use native.Mathlib.Omega.{arith}
-use lib.ListN.{length}
 use lib.Dec.{eqb}
 use borrow.Author.Tests.{ne-eqb}
 use Rattle.rules.specs.declared.kind.Kind.{Kind}
@@ -12,15 +11,13 @@ use Rattle.rules.specs.declared.kind.Kind.the-variants.{Ethernet2, Vlan, Ipv4, 
 use Rattle.rules.specs.declared.place.Place.{Place}
 use Rattle.rules.specs.declared.place.Room.{Room}
 use Rattle.rules.specs.Bytes.{number}
-use Rattle.rules.specs.Test.{pick, All}
-use Rattle.rules.specs.Rules.{Turn, opens, leastLength, lengthOf, declaredOf, marksOf, turnOf, testsBy, link}
-use Rattle.rules.specs.Place.{Found, Follow, next, follow, followOf, foundBy, leaves, entered, reads, read, bytes}
-use Rattle.rules.specs.Walk.{Trace, Entry, behind, step, walk, trace}
-use Rattle.laws.specs.Kinds.{Passes, Sized, sized, Nested, nested}
-use Rattle.laws.specs.Reads.{foundAt, PassesAt, read-passes, Parts, parts, Ahead, ahead}
-use Rattle.laws.specs.Walks.{step-same, trace-step}
-use Rattle.chain.specs.Chain.{lengthAt, roomAt, Stands, Leads}
-use Rattle.chain.specs.Agree.{AgreeTo, same-within, ending, endingAt, same-ending}
+use Rattle.rules.specs.Rules.{lengthOf, declaredOf, marksOf, turnOf, testsBy, link}
+use Rattle.rules.specs.Place.{Found, follow, leaves, read}
+use Rattle.rules.specs.Walk.{step, walk, trace}
+use Rattle.laws.specs.Kinds.{Passes}
+use Rattle.laws.specs.Reads.{parts, ahead}
+use Rattle.laws.specs.Walks.{step-same}
+use Rattle.chain.specs.Agree.{AgreeTo, same-within, ending}
 use Rattle.chain.specs.Deciding.{same-read}
 
 -- ---- a room that both frames hold
@@ -48,11 +45,6 @@ pub link-leaves : {k : Kind} → IsLink k → (g : ℕ → ℕ) (at : ℕ) (p : 
 unfolding leaves marksOf
 link-leaves ethernet2 g at p e = refl
 link-leaves vlan g at p e = refl
-
-pub link-end : {k : Kind} → IsLink k → (g : ℕ → ℕ) (at : ℕ) (p : Room) → leaves k g at p .end ≡ p .end
-unfolding leaves
-link-end ethernet2 g at p = refl
-link-end vlan g at p = refl
 
 -- its tests ask for its length alone
 pub link-passes : {k : Kind} → IsLink k → (g : ℕ → ℕ) (at : ℕ) (p : Room) (e : ℕ) → at + lengthOf k g ≤ e → Passes k g at (ending p e)

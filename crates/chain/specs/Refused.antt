@@ -7,7 +7,7 @@ use native.Mathlib.Omega.{arith}
 use Rattle.rules.specs.declared.refusal.Refusal.{Refusal}
 use Rattle.rules.specs.declared.refusal.Row.{Row}
 use Rattle.rules.specs.Paper.{refusalOnPaper}
-use Rattle.rules.specs.Walk.{Trace, Entry, header, is, no-more, refusal, nth, headerOf, countOf}
+use Rattle.rules.specs.Walk.{Trace, Entry, header, is, refusal, nth, headerOf, countOf}
 use Rattle.laws.specs.Gather.{gathered}
 use Rattle.rules.specs.declared.entry.Entry.{Entry as Given}
 use Rattle.rules.specs.Place.{entryKind}

@@ -7,8 +7,8 @@ use lib.ListN.{length}
 use Rattle.rules.specs.declared.kind.Kind.{Kind}
 use Rattle.rules.specs.declared.place.Place.{Place}
 use Rattle.rules.specs.declared.place.Room.{Room}
-use Rattle.rules.specs.Rules.{leastLength, lengthOf, declaredOf, turnOf}
-use Rattle.rules.specs.Place.{Found, Follow, next, followOf, foundBy, leaves, entered, place, reads, read, bytes, start}
+use Rattle.rules.specs.Rules.{lengthOf, declaredOf, turnOf}
+use Rattle.rules.specs.Place.{Found, Follow, followOf, foundBy, leaves, entered, reads, read, bytes, start}
 use Rattle.rules.specs.Walk.{Trace, accepted, refused, unfinished, Entry, behind, onwardBy, step, trace, slices}
 use Rattle.laws.specs.Kinds.{Passes, sized, nested}
 use Rattle.laws.specs.Reads.{foundAt, read-passes, ahead}
@@ -16,7 +16,7 @@ use Rattle.laws.specs.Walks.{step-same, trace-step}
 use Rattle.chain.specs.Chain.{lengthAt, roomAt, pastAt, entryAt, Stands, Leads}
 use Rattle.chain.specs.Walked.{stands, next-leads, one-next, steps}
 use Rattle.chain.specs.Agree.{AgreeTo, ending, endingAt, same-ending}
-use Rattle.chain.specs.Padding.{within, IsLink, link-leaves, link-end, link-passes, link-turn, Sets, sets}
+use Rattle.chain.specs.Padding.{within, IsLink, link-leaves, link-passes, link-turn, sets}
 
 -- ---- what is assumed
 

@@ -4,23 +4,21 @@ use mathlib.Core.Path.{_≡_, refl, sym, ap, _∙_, subst}
 use mathlib.Core.List.{List, [], _∷_}
 use mathlib.Core.Bool.{Bool, true, false}
 use native.Mathlib.Omega.{arith}
-use Rattle.rules.specs.declared.place.Number.{Number}
 use Rattle.rules.specs.declared.place.Place.{Place}
-use Rattle.rules.specs.declared.place.Room.{Room}
 use Rattle.rules.specs.declared.refusal.Row.{Row}
 use Rattle.rules.specs.Numbers.{hopByHopNotAtStart}
 use Rattle.rules.specs.declared.kind.Kind.{Kind}
 use Rattle.rules.specs.declared.kind.Kind.the-variants.{HopByHop}
 use Rattle.rules.specs.declared.kind.Layer.the-variants.{Of}
-use Rattle.rules.specs.Test.{Test, Holds, passes, Failure, other, failure, Outcome, whole, failed, judge, pass, placed}
-use Rattle.rules.specs.Rules.{Turn, opens, stops, late, tests, lengthOf, turnOf, namesOf, payloadOf}
-use Rattle.rules.specs.Place.{Stopped, Follow, next, halt, wrong, Found, Reading, reads, refuses, settle, bytes, outcome, entered, place, follow, followOf, read, start}
+use Rattle.rules.specs.Test.{Test, passes, Failure, other, failure, Outcome, whole, failed, judge, pass, placed}
+use Rattle.rules.specs.Rules.{Turn, opens, stops, late, turnOf, namesOf, payloadOf}
+use Rattle.rules.specs.Place.{Stopped, Follow, next, halt, wrong, Found, Reading, reads, refuses, settle, bytes, outcome, follow, followOf, read, start}
 use Rattle.rules.specs.Walk.{Trace, accepted, refused, unfinished, Entry, entry, behind, onwardBy, step, walk, trace, slices}
 use Rattle.laws.specs.Tests.{holds}
-use Rattle.laws.specs.Kinds.{Sized, sized, Nested, nested}
-use Rattle.laws.specs.Reads.{foundAt, PassesAt, read-passes, read-failed, Parts, parts, onto}
+use Rattle.laws.specs.Kinds.{sized, nested}
+use Rattle.laws.specs.Reads.{foundAt, PassesAt, read-passes, read-failed, parts}
 use Rattle.laws.specs.Walks.{trace-step, finished}
-use Rattle.chain.specs.Chain.{lengthAt, roomAt, pastAt, entryAt, Stands, Leads, Stops, Chain, last, more, ChainOf}
+use Rattle.chain.specs.Chain.{roomAt, pastAt, entryAt, Stands, Leads, Stops, Chain, last, more, ChainOf}
 use Rattle.chain.specs.Broken.{FirstFailed, this, later, Broken, fails, late-hop, more as broken-more, BrokenOf}
 
 -- ---- one header

@@ -9,17 +9,18 @@ ghost use Rattle.chain.specs.Accepted.{AcceptedIffChain};
 ghost use Rattle.chain.specs.Headers.{HeadersInOrder, CountIsLength};
 ghost use Rattle.chain.specs.Refused.{RefusedForAReason};
 use rules::Entry;
-use slicer::SlicedPacket;
+use slicer::Outcome;
 use steps::CountAnswer;
 use steps::HeaderAnswer;
 
-// Accepted exactly when there is a chain; refused exactly where the walk breaks.
-pub fn slice(s: &[u8], entry: Entry) -> SlicedPacket
+// How the walk of a frame ends: accepted exactly when there is a chain; refused exactly where the walk breaks.
+pub fn outcome(s: &[u8], entry: Entry) -> Outcome
     ensures accepted { λ r. ⌜ AcceptedIffChain entry (now (s .entry)) r ⌝ }
-    ensures refused { λ r. ⌜ RefusedForAReason entry (now (s .entry)) (λ (q : Refusal). r .outcome ≡ O.Refused q) ⌝ }
+    ensures refused { λ r. ⌜ RefusedForAReason entry (now (s .entry)) (λ (q : Refusal). r ≡ O.Refused q) ⌝ }
 {
     let reply = slicer::slice(s, entry);
-    reply
+    let told = reply.outcome;
+    told
 }
 
 // Every header of the chain, once, in order, and then no more.

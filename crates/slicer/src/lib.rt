@@ -2,10 +2,12 @@
 // by what they promise. The lent bytes are read and never written.
 mod link;
 mod net;
+mod options;
 pub mod packet;
 mod transport;
 mod walk;
 
+pub use options::OptionsPart;
 pub use packet::IpPart;
 pub use packet::LinkPart;
 pub use packet::NetPart;

@@ -61,7 +61,8 @@ fn minus(a: usize, b: usize) -> usize
 
 // The place of a frame's first header.
 pub fn first(s: &[u8], entry: Entry) -> Place
-    ensures { λ r. ⌜ r ≡ start (entryKind entry) (now (s .entry)) ⌝ }
+    ensures answer { λ r. ⌜ r ≡ start (entryKind entry) (now (s .entry)) ⌝ }
+    ensures unwritten { λ r. ⌜ now (s .exit) ≡ now (s .entry) ⌝ }
 {
     let kind = entry_kind(entry);
     let ips = ips_with(kind, 0);

@@ -19,7 +19,7 @@ first-requires : tie.Need-first-requires Inv-loop μ-loop
 first-requires c κs = search needs
 
 loop-holds : tie.Need-loop-holds Inv-loop μ-loop
-loop-holds c = telling-first _ _ (c .first .ensures) _ (c .before .before .before .pre)
+loop-holds c = telling-first _ _ (c .first .ensures .0) _ (c .before .before .before .pre)
 
 next-requires : tie.Need-next-requires Inv-loop μ-loop
 next-requires c κs = search needs
@@ -49,7 +49,7 @@ same-length : tie.Need-same-length Inv-loop μ-loop
 same-length c = wrote-length (c .before .before .ending-lines .ensures) ∙ wrote-length (c .before .before .before .before .before .before .header-line2 .ensures) ∙ wrote-length (c .before .before .before .before .before .before .before .before .before .before .before .before .loop .inv .wrote)
 
 returns : tie.Need-returns Inv-loop μ-loop
-returns c = telling-all _ _ (c .before .before .before .before .before .before .before .before .before .before .before .before .before .first .ensures) (telling-last (c .before .before .before .before .before .before .before .before .before .before .before .before .loop .inv) _ (c .before .before .before .before .before .before .before .before .before .before .before .next .ensures .0) (c .before .before .before .before .before .before .before .before .before .step2 .given .1) (c .before .before .before .before .before .before .header-line2 .ensures) (c .before .before .ending-lines .ensures))
+returns c = telling-all _ _ (c .before .before .before .before .before .before .before .before .before .before .before .before .before .first .ensures .0) (telling-last (c .before .before .before .before .before .before .before .before .before .before .before .before .loop .inv) _ (c .before .before .before .before .before .before .before .before .before .before .before .next .ensures .0) (c .before .before .before .before .before .before .before .before .before .step2 .given .1) (c .before .before .before .before .before .before .header-line2 .ensures) (c .before .before .ending-lines .ensures))
 
 enum-told : tie.Need-enum-told Inv-loop μ-loop
 enum-told c = search needs

@@ -1,0 +1,158 @@
+//! Headers by number, and their count.
+
+use crate::boundary::{self, Head, NO_MORE, REFUSED, THERE};
+use crate::refusal::Refusal;
+
+/// How a frame begins. Offsets count from the slice's start.
+#[derive(Clone, Copy, Debug, PartialEq, Eq, Hash)]
+pub enum Entry {
+    /// A whole Ethernet II frame, without the frame check sequence.
+    Ethernet = 1,
+    /// A packet known to be IPv4.
+    Ipv4 = 2,
+    /// A packet known to be IPv6.
+    Ipv6 = 3,
+}
+
+/// The kinds of header.
+#[derive(Clone, Copy, Debug, PartialEq, Eq, PartialOrd, Ord, Hash)]
+#[allow(missing_docs)]
+pub enum Kind {
+    Ethernet2 = 1,
+    Vlan = 2,
+    Ipv4 = 3,
+    Ipv6 = 4,
+    HopByHop = 5,
+    Routing = 6,
+    Destination = 7,
+    Fragment = 8,
+    Auth = 9,
+    Udp = 10,
+    Tcp = 11,
+}
+
+/// A header of a frame: its kind, its offset and its bytes.
+#[derive(Clone, Copy, Debug, PartialEq, Eq, Hash)]
+pub struct HeaderSlice<'a> {
+    /// What it is.
+    pub kind: Kind,
+    /// Where it begins.
+    pub offset: usize,
+    /// Its bytes.
+    pub slice: &'a [u8],
+}
+
+impl Kind {
+    /// The name that the program `slice_frame` prints.
+    pub fn name(self) -> &'static str {
+        match self {
+            Kind::Ethernet2 => "ethernet2",
+            Kind::Vlan => "vlan",
+            Kind::Ipv4 => "ipv4",
+            Kind::Ipv6 => "ipv6",
+            Kind::HopByHop => "hop-by-hop",
+            Kind::Routing => "routing",
+            Kind::Destination => "destination",
+            Kind::Fragment => "fragment",
+            Kind::Auth => "auth",
+            Kind::Udp => "udp",
+            Kind::Tcp => "tcp",
+        }
+    }
+
+    pub(crate) fn by_number(number: usize) -> Kind {
+        match number {
+            1 => Kind::Ethernet2,
+            2 => Kind::Vlan,
+            3 => Kind::Ipv4,
+            4 => Kind::Ipv6,
+            5 => Kind::HopByHop,
+            6 => Kind::Routing,
+            7 => Kind::Destination,
+            8 => Kind::Fragment,
+            9 => Kind::Auth,
+            10 => Kind::Udp,
+            11 => Kind::Tcp,
+            other => unreachable!("no kind has the number {other}"),
+        }
+    }
+}
+
+impl<'a> HeaderSlice<'a> {
+    // every header of an accepted frame lies inside it, so the bytes are there (crate chain, Inside)
+    pub(crate) fn new(frame: &'a [u8], head: Head) -> HeaderSlice<'a> {
+        HeaderSlice {
+            kind: Kind::by_number(head.kind),
+            offset: head.at,
+            slice: &frame[head.at..head.at + head.len],
+        }
+    }
+}
+
+/// Header number k of a frame, counted from 0; none past the last one. A refused frame gives its refusal for every k.
+pub fn header(entry: Entry, frame: &[u8], k: usize) -> Result<Option<HeaderSlice<'_>>, Refusal> {
+    let reply = boundary::header(frame, entry as usize, k);
+    match reply.status {
+        THERE => Ok(Some(HeaderSlice::new(frame, reply.header))),
+        NO_MORE => Ok(None),
+        REFUSED => Err(Refusal::from_row(&reply.refusal)),
+        other => unreachable!("no header's answer has the status {other}"),
+    }
+}
+
+/// How many headers a frame has; a refused one has none, but its refusal.
+pub fn count(entry: Entry, frame: &[u8]) -> Result<usize, Refusal> {
+    let reply = boundary::count(frame, entry as usize);
+    match reply.status {
+        THERE => Ok(reply.count),
+        REFUSED => Err(Refusal::from_row(&reply.refusal)),
+        other => unreachable!("no count has the status {other}"),
+    }
+}
+
+/// The headers of a frame, in order; of a refused frame its refusal, once.
+///
+/// Each header is asked for by its number and so walked to from the start: n headers cost n walks.
+///
+/// ```
+/// use bhirkulom::{headers, Entry};
+///
+/// // IPv6 of payload length 0, then a destination header that names 59, which isn't opened
+/// let mut packet = [0; 48];
+/// packet[0] = 0x60;
+/// packet[6] = 60;
+/// packet[40] = 59;
+/// let names: Vec<_> = headers(Entry::Ipv6, &packet).map(|h| h.unwrap().kind.name()).collect();
+/// assert_eq!(names, ["ipv6", "destination"]);
+/// assert_eq!(headers(Entry::Ipv6, &packet[..39]).filter(|h| h.is_err()).count(), 1);
+/// ```
+pub fn headers(entry: Entry, frame: &[u8]) -> Headers<'_> {
+    Headers {
+        entry,
+        frame,
+        next: Some(0),
+    }
+}
+
+/// The iterator of [`headers`].
+#[derive(Clone, Debug)]
+pub struct Headers<'a> {
+    entry: Entry,
+    frame: &'a [u8],
+    // none behind the last answer
+    next: Option<usize>,
+}
+
+impl<'a> Iterator for Headers<'a> {
+    type Item = Result<HeaderSlice<'a>, Refusal>;
+
+    fn next(&mut self) -> Option<Self::Item> {
+        let k = self.next?;
+        let answer = header(self.entry, self.frame, k).transpose();
+        self.next = match answer {
+            Some(Ok(_)) => Some(k + 1),
+            _ => None,
+        };
+        answer
+    }
+}

@@ -1,0 +1,98 @@
+//! Sample frames of document 01 through the wrapper, for machines that run no doc tests.
+use bhirkulom::{
+    count, header, headers, tcp_option, Entry, Kind, Layer, Number, OptionKind, OptionReason, Reason, SlicedPacket,
+    Source, Stop, Sum16BitWords,
+};
+
+/// F12: one tag, IPv4 of total length 32, UDP of length 12, zeros up to 60 bytes.
+fn f12() -> [u8; 60] {
+    let mut frame = [0; 60];
+    frame[12..14].copy_from_slice(&[0x81, 0x00]);
+    frame[16..18].copy_from_slice(&[0x08, 0x00]);
+    frame[18] = 0x45;
+    frame[21] = 32;
+    frame[27] = 17;
+    frame[43] = 12;
+    frame
+}
+
+#[test]
+fn accepted() {
+    let frame = f12();
+    let packet = SlicedPacket::from_ethernet(&frame).unwrap();
+    assert_eq!(packet.link.unwrap().slice, &frame[..14]);
+    assert_eq!(packet.tags.len(), 1);
+    assert_eq!(
+        (packet.tags[0].kind, packet.tags[0].slice),
+        (Kind::Vlan, &frame[14..18])
+    );
+    assert_eq!(packet.net.unwrap().exts.offset, 38);
+    assert_eq!(packet.transport.unwrap().slice, &frame[38..46]);
+    assert_eq!((packet.payload.offset, packet.payload.slice.len()), (46, 4));
+    assert_eq!((packet.number, packet.stop), (Number::Ip(17), Stop::TransportRead));
+}
+
+#[test]
+fn by_number() {
+    let frame = f12();
+    let listed: Vec<_> = headers(Entry::Ethernet, &frame)
+        .map(|h| h.unwrap())
+        .map(|h| (h.kind.name(), h.offset, h.slice.len()))
+        .collect();
+    assert_eq!(
+        listed,
+        [("ethernet2", 0, 14), ("vlan", 14, 4), ("ipv4", 18, 20), ("udp", 38, 8)]
+    );
+    assert_eq!(count(Entry::Ethernet, &frame), Ok(4));
+    assert_eq!(header(Entry::Ethernet, &frame, 4), Ok(None));
+    assert_eq!(header(Entry::Ethernet, &frame, usize::MAX), Ok(None));
+}
+
+#[test]
+fn refused() {
+    let refusal = SlicedPacket::from_ethernet(&[0; 13]).unwrap_err();
+    assert_eq!((refusal.layer, refusal.offset), (Layer::Header(Kind::Ethernet2), 0));
+    let (required, have, source) = (14, 13, Source::Slice);
+    assert_eq!(refusal.reason, Reason::TooShort { required, have, source });
+    assert_eq!(count(Entry::Ethernet, &[0; 13]), Err(refusal));
+    assert_eq!(header(Entry::Ethernet, &[0; 13], 5), Err(refusal));
+    let said = SlicedPacket::from_ipv4(&[0x54; 20]).unwrap_err().to_string();
+    assert_eq!(said, "refused 2 ipv4 0 5");
+    let said = SlicedPacket::from_ipv6(&[]).unwrap_err().to_string();
+    assert_eq!(said, "refused 1 ipv6 0 required 40 have 0 source slice");
+}
+
+#[test]
+fn options() {
+    let bytes = [1, 254, 2, 8, 9];
+    assert_eq!(tcp_option(&bytes, 0).unwrap().unwrap().kind, OptionKind::Noop);
+    assert_eq!(tcp_option(&bytes, 1).unwrap().unwrap().kind, OptionKind::Unknown(254));
+    let refusal = tcp_option(&bytes, 2).unwrap_err();
+    assert_eq!((refusal.reason, refusal.offset), (OptionReason::LengthNotSound, 3));
+    assert_eq!(refusal.to_string(), "refused 9 option 3");
+    assert_eq!(tcp_option(&[], 0), Ok(None));
+}
+
+/// IPv4 of total length 44 with a TCP header of 24 bytes, whose options are a maximum segment size.
+#[test]
+fn options_of_a_packet() {
+    let mut packet = [0; 44];
+    packet[0] = 0x45;
+    packet[3] = 44;
+    packet[9] = 6;
+    packet[32] = 0x60;
+    packet[40..].copy_from_slice(&[2, 4, 5, 0xb4]);
+    let sliced = SlicedPacket::from_ipv4(&packet).unwrap();
+    let kinds: Vec<_> = sliced.tcp_options().unwrap().map(|o| o.unwrap().kind).collect();
+    assert_eq!(kinds, [OptionKind::MaximumSegmentSize]);
+    assert!(SlicedPacket::from_ethernet(&f12()).unwrap().tcp_options().is_none());
+}
+
+#[test]
+fn checksum() {
+    let sum = Sum16BitWords::new();
+    assert_eq!(sum.ones_complement(), 0xffff);
+    assert_eq!(sum.add_slice(&[1]).add_slice(&[2]).ones_complement(), 0xfcff);
+    assert_eq!(sum.add_slice(&[1, 2]).ones_complement(), 0xfefd);
+    assert_eq!(sum.add_slice(&[0xff, 0xff]).to_ones_complement_with_no_zero(), 0xffff);
+}

@@ -1,0 +1,171 @@
+-- What each answer is on the other side of the boundary: a status, and document 01's numbers.
+use Prim.Native.Nat.{ℕ}
+use mathlib.Core.List.{List, [], _∷_, map}
+use mathlib.Core.Bool.{Bool, true, false}
+use lib.Dec.{eqb}
+use Rattle.rules.specs.declared.entry.Entry.{Entry}
+use Rattle.rules.specs.declared.entry.Entry.the-variants as E
+use Rattle.rules.specs.declared.place.Header.{Header}
+use Rattle.rules.specs.declared.place.Number.{Number}
+use Rattle.rules.specs.declared.place.Number.the-variants as M
+use Rattle.rules.specs.declared.place.Range.{Range}
+use Rattle.rules.specs.declared.refusal.Row.{Row as PaperRow}
+use Rattle.rules.specs.Numbers.{tagLimit}
+use Rattle.rules.specs.Test.{pick}
+use Rattle.rules.specs.Paper.{kindNumber, layerNumber}
+use Rattle.rules.specs.Place.{entryKind}
+use Rattle.rules.specs.Walk.{Answer, is, no-more, refusal, headerOf, countOf, slices}
+use Rattle.slicer.specs.declared.packet.LinkPart.{LinkPart}
+use Rattle.slicer.specs.declared.packet.LinkPart.the-variants as L
+use Rattle.slicer.specs.declared.packet.NetPart.{NetPart}
+use Rattle.slicer.specs.declared.packet.NetPart.the-variants as N
+use Rattle.slicer.specs.declared.packet.TransportPart.{TransportPart}
+use Rattle.slicer.specs.declared.packet.TransportPart.the-variants as T
+use Rattle.slicer.specs.Reply.{Reply, Ended, accepted, refused, replyOf, slots}
+use Rattle.tcp_options.specs.Options as O
+use Rattle.collector.specs.declared.Chosen.{Chosen}
+use Rattle.collector.specs.declared.Chosen.the-variants as C
+use Rattle.collector.specs.declared.handed.Span.{Span}
+use Rattle.collector.specs.declared.handed.Head.{Head}
+use Rattle.collector.specs.declared.handed.Row.{Row}
+use Rattle.collector.specs.declared.handed.Net.{Net}
+use Rattle.collector.specs.declared.handed.Packet.{Packet}
+use Rattle.collector.specs.declared.reply.End.{End}
+use Rattle.collector.specs.declared.handed.HeaderReply.{HeaderReply}
+use Rattle.collector.specs.declared.handed.CountReply.{CountReply}
+use Rattle.collector.specs.declared.handed.OptionReply.{OptionReply}
+
+-- ---- statuses, and entries by number
+
+-- the frame is accepted, or what was asked for is there
+abbrev pub there : ℕ
+there = 0
+
+-- "no more"
+abbrev pub noMore : ℕ
+noMore = 1
+
+abbrev pub isRefused : ℕ
+isRefused = 2
+
+-- no entry has the number given
+abbrev pub noSuchEntry : ℕ
+noSuchEntry = 3
+
+-- "Entries: a whole Ethernet II frame, a packet known to be IPv4, and a packet known to be IPv6", numbered in that order from 1
+abbrev pub entryBy : ℕ → Chosen
+entryBy n = pick (eqb n 1) (C.Is E.Ethernet) (pick (eqb n 2) (C.Is E.Ipv4) (pick (eqb n 3) (C.Is E.Ipv6) C.Unknown))
+
+-- ---- parts
+
+abbrev pub span : ℕ → ℕ → Span
+span at len = record { at = at; len = len }
+
+abbrev pub spanOf : Range → Span
+spanOf r = span (r .at) (r .len)
+
+abbrev pub headOf : Header → Head
+headOf h = record { kind = kindNumber (h .kind); at = h .at; len = h .len }
+
+abbrev pub noHead : Head
+noHead = record { kind = 0; at = 0; len = 0 }
+
+abbrev pub linkHead : LinkPart → Head
+linkHead L.Nothing = noHead
+linkHead (L.Ethernet2 h) = headOf h
+
+abbrev pub netOf : NetPart → Net
+netOf N.Nothing = record { header = noHead; exts = span 0 0; fragmented = false }
+netOf (N.Ip i) = record { header = headOf (i .header); exts = spanOf (i .exts); fragmented = i .fragmented }
+
+abbrev pub transportHead : TransportPart → Head
+transportHead T.Nothing = noHead
+transportHead (T.Is h) = headOf h
+
+abbrev pub numberOf : Number → ℕ
+numberOf (M.Link t) = t .0
+numberOf (M.Ip n) = n .0
+
+abbrev pub rowOf : PaperRow → Row
+rowOf r = record { number = r .number; layer = layerNumber (r .layer); offset = r .offset; values = r .values }
+
+abbrev pub noRow : Row
+noRow = record { number = 0; layer = 0; offset = 0; values = 0 ∷ 0 ∷ 0 ∷ [] }
+
+-- ---- the reply to a frame
+
+abbrev pub endOf : Ended → End
+endOf (accepted x) = record { status = there; payload = span (x .at) (x .len); number = numberOf (x .number); stop = x .why; refusal = noRow }
+endOf (refused q) = record { status = isRefused; payload = span 0 0; number = 0; stop = 0; refusal = rowOf q }
+
+abbrev pub noEntry : End
+noEntry = record { status = noSuchEntry; payload = span 0 0; number = 0; stop = 0; refusal = noRow }
+
+abbrev pub packet : LinkPart → ℕ → List Range → NetPart → TransportPart → End → Packet
+packet link count tags net transport end = record {
+  status = end .status;
+  link = linkHead link;
+  count = count;
+  tags = map spanOf tags;
+  net = netOf net;
+  transport = transportHead transport;
+  payload = end .payload;
+  number = end .number;
+  stop = end .stop;
+  refusal = end .refusal;
+}
+
+abbrev pub packetBy : Reply → Packet
+packetBy r = packet (r .link) (r .count) (r .tags) (r .net) (r .transport) (endOf (r .ended))
+
+abbrev pub sliceFor : Chosen → List ℕ → Packet
+sliceFor (C.Is e) s = packetBy (replyOf (entryKind e) s)
+sliceFor C.Unknown s = packet L.Nothing 0 (slots tagLimit []) N.Nothing T.Nothing noEntry
+
+-- ---- header k, and the count
+
+abbrev pub headerReply : ℕ → Head → Row → HeaderReply
+headerReply status head row = record { status = status; header = head; refusal = row }
+
+abbrev pub headerBy : Answer Header → HeaderReply
+headerBy (is h) = headerReply there (headOf h) noRow
+headerBy no-more = headerReply noMore noHead noRow
+headerBy (refusal q) = headerReply isRefused noHead (rowOf q)
+
+abbrev pub headerFor : Chosen → List ℕ → ℕ → HeaderReply
+headerFor (C.Is e) s k = headerBy (headerOf (slices (entryKind e) s) k)
+headerFor C.Unknown s k = headerReply noSuchEntry noHead noRow
+
+abbrev pub countReply : ℕ → ℕ → Row → CountReply
+countReply status count row = record { status = status; count = count; refusal = row }
+
+abbrev pub countBy : Answer ℕ → CountReply
+countBy (is n) = countReply there n noRow
+countBy no-more = countReply noMore 0 noRow
+countBy (refusal q) = countReply isRefused 0 (rowOf q)
+
+abbrev pub countFor : Chosen → List ℕ → CountReply
+countFor (C.Is e) s = countBy (countOf (slices (entryKind e) s))
+countFor C.Unknown s = countReply noSuchEntry 0 noRow
+
+-- ---- option k
+
+abbrev pub isKnown : O.Kind → Bool
+isKnown (O.known n) = true
+isKnown (O.unknown n) = false
+
+abbrev pub optionReply : (status kind at len number offset : ℕ) → Bool → OptionReply
+optionReply status kind at len number offset known = record {
+  status = status;
+  kind = kind;
+  at = at;
+  len = len;
+  number = number;
+  offset = offset;
+  known = known;
+}
+
+abbrev pub optionBy : O.Answer → OptionReply
+optionBy (O.is o) = optionReply there (O.numberOf (o .kind)) (o .at) (o .size) 0 0 (isKnown (o .kind))
+optionBy O.no-more = optionReply noMore 0 0 0 0 0 false
+optionBy (O.refusal r) = optionReply isRefused 0 0 0 (r .number) (r .offset) false

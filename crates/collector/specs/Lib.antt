@@ -1,0 +1,2 @@
+-- What each answer is on the other side of the boundary (Handed).
+pub mod Handed

@@ -1,0 +1,137 @@
+// The collector's functions for C and Rust, over numbers, slices and structs. Any bytes of any length get an answer, and so does
+// any number of an entry. Nothing lent is written. `rt staticlib collector` makes the archive.
+ghost use mathlib.Core.Path.{_≡_};
+ghost use Rattle.checksum.specs.Sum.{addSlice, answer, noZero};
+ghost use Rattle.tcp_options.specs.Options.{options, optionOf};
+ghost use Rattle.collector.specs.Handed.{
+  entryBy,
+  sliceFor,
+  headerFor,
+  countFor,
+  optionBy,
+};
+use crate::handed::CountReply;
+use crate::handed::HeaderReply;
+use crate::handed::OptionReply;
+use crate::handed::Packet;
+use checksum::Sum16BitWords;
+use rules::Entry;
+
+pub mod handed;
+mod reply;
+
+// An entry by its number, or the answer that there is none of that number.
+pub enum Chosen {
+    Is(Entry),
+    Unknown,
+}
+
+fn entry_by(number: usize) -> Chosen
+    ensures { λ r. ⌜ r ≡ entryBy number ⌝ }
+{
+    if number == 1 {
+        return Chosen::Is(Entry::Ethernet);
+    }
+    if number == 2 {
+        return Chosen::Is(Entry::Ipv4);
+    }
+    if number == 3 {
+        return Chosen::Is(Entry::Ipv6);
+    }
+    Chosen::Unknown
+}
+
+// The whole reply to a frame. Entry 1 is a whole Ethernet II frame, 2 a packet known to be IPv4, 3 one known to be IPv6.
+#[no_mangle]
+pub extern "C" fn bhirkulom_slice(frame: &[u8], entry: usize) -> Packet
+    ensures answer { λ r. ⌜ r ≡ sliceFor (entryBy entry) (now (frame .entry)) ⌝ }
+    ensures unwritten { λ r. ⌜ now (frame .exit) ≡ now (frame .entry) ⌝ }
+{
+    let chosen = entry_by(entry);
+    match chosen {
+        Chosen::Is(known) => {
+            let sliced = slicer::slice(frame, known);
+            reply::packet_by(sliced)
+        }
+        Chosen::Unknown => reply::no_packet(),
+    }
+}
+
+// Header number k of a frame, counted from 0.
+#[no_mangle]
+pub extern "C" fn bhirkulom_header(frame: &[u8], entry: usize, k: usize) -> HeaderReply
+    ensures answer { λ r. ⌜ r ≡ headerFor (entryBy entry) (now (frame .entry)) k ⌝ }
+    ensures unwritten { λ r. ⌜ now (frame .exit) ≡ now (frame .entry) ⌝ }
+{
+    let chosen = entry_by(entry);
+    match chosen {
+        Chosen::Is(known) => {
+            let listed = steps::header(frame, known, k);
+            reply::header_by(listed)
+        }
+        Chosen::Unknown => HeaderReply {
+            status: reply::NO_SUCH_ENTRY,
+            header: reply::no_head(),
+            refusal: reply::no_row(),
+        },
+    }
+}
+
+// How many headers a frame has.
+#[no_mangle]
+pub extern "C" fn bhirkulom_count(frame: &[u8], entry: usize) -> CountReply
+    ensures answer { λ r. ⌜ r ≡ countFor (entryBy entry) (now (frame .entry)) ⌝ }
+    ensures unwritten { λ r. ⌜ now (frame .exit) ≡ now (frame .entry) ⌝ }
+{
+    let chosen = entry_by(entry);
+    match chosen {
+        Chosen::Is(known) => {
+            let counted = steps::count(frame, known);
+            reply::count_by(counted)
+        }
+        Chosen::Unknown => CountReply {
+            status: reply::NO_SUCH_ENTRY,
+            count: 0,
+            refusal: reply::no_row(),
+        },
+    }
+}
+
+// Option number k, counted from 0, of what follows byte 20 of a TCP header.
+#[no_mangle]
+pub extern "C" fn bhirkulom_option(bytes: &[u8], k: usize) -> OptionReply
+    ensures answer { λ r. ⌜ r ≡ optionBy (optionOf (options (now (bytes .entry))) k) ⌝ }
+    ensures unwritten { λ r. ⌜ now (bytes .exit) ≡ now (bytes .entry) ⌝ }
+{
+    let found = tcp_options::option(bytes, k);
+    reply::option_by(found)
+}
+
+// The sum with one slice more. The sum of no slices is 0; every number of 16 bits is a sum.
+#[no_mangle]
+pub extern "C" fn bhirkulom_sum_add(sum: u16, slice: &[u8]) -> u16
+    ensures answer { λ r. ⌜ r ≡ addSlice sum (now (slice .entry)) ⌝ }
+    ensures unwritten { λ r. ⌜ now (slice .exit) ≡ now (slice .entry) ⌝ }
+{
+    let before = Sum16BitWords { sum };
+    let after = before.add_slice(slice);
+    after.sum
+}
+
+// The checksum of what was added: the number that goes into a header, high byte first.
+#[no_mangle]
+pub extern "C" fn bhirkulom_sum_answer(sum: u16) -> u16
+    ensures { λ r. ⌜ r ≡ answer sum ⌝ }
+{
+    let words = Sum16BitWords { sum };
+    words.ones_complement()
+}
+
+// The same for UDP, where a 0 in the header says that no checksum was made.
+#[no_mangle]
+pub extern "C" fn bhirkulom_sum_answer_no_zero(sum: u16) -> u16
+    ensures { λ r. ⌜ r ≡ noZero (answer sum) ⌝ }
+{
+    let added = Sum16BitWords { sum };
+    added.to_ones_complement_with_no_zero()
+}

@@ -1,0 +1,347 @@
+// Answers made what is handed over the boundary.
+ghost use mathlib.Core.Path.{_≡_};
+ghost use mathlib.Core.List.{[], map};
+ghost use Rattle.rules.specs.Numbers.{tagLimit};
+ghost use Rattle.rules.specs.Paper.{refusalOnPaper};
+ghost use Rattle.slicer.specs.Reply.{outcomeOnPaper, packetOnPaper};
+ghost use Rattle.steps.specs.Lists.{headerOnPaper, countOnPaper};
+ghost use Rattle.tcp_options.specs.Paper.{kindOnPaper, optionOnPaper};
+ghost use Rattle.collector.specs.declared.Chosen.the-variants as C;
+ghost use Rattle.collector.specs.Handed.{
+  spanOf,
+  headOf,
+  noHead,
+  linkHead,
+  netOf,
+  transportHead,
+  numberOf,
+  rowOf,
+  noRow,
+  endOf,
+  packetBy,
+  sliceFor,
+  headerBy,
+  countBy,
+  isKnown,
+  optionBy,
+};
+use crate::handed::CountReply;
+use crate::handed::Head;
+use crate::handed::HeaderReply;
+use crate::handed::Net;
+use crate::handed::OptionReply;
+use crate::handed::Packet;
+use crate::handed::Row;
+use crate::handed::Span;
+use rules::Header;
+use rules::Number;
+use rules::Range;
+use rules::Refusal;
+use rules::ether_type::TAG_LIMIT;
+use slicer::LinkPart;
+use slicer::NetPart;
+use slicer::Outcome;
+use slicer::SlicedPacket;
+use slicer::TransportPart;
+use steps::CountAnswer;
+use steps::HeaderAnswer;
+use tcp_options::OptionAnswer;
+use tcp_options::OptionKind;
+
+// Accepted, or what was asked for is there.
+pub const THERE: usize = 0;
+
+pub const NO_MORE: usize = 1;
+
+pub const REFUSED: usize = 2;
+
+pub const NO_SUCH_ENTRY: usize = 3;
+
+pub fn no_head() -> Head
+    ensures { λ r. ⌜ r ≡ noHead ⌝ }
+{
+    Head {
+        kind: 0,
+        at: 0,
+        len: 0,
+    }
+}
+
+pub fn no_row() -> Row
+    ensures { λ r. ⌜ r ≡ noRow ⌝ }
+{
+    Row {
+        number: 0,
+        layer: 0,
+        offset: 0,
+        values: [0, 0, 0],
+    }
+}
+
+fn head_of(header: Header) -> Head
+    ensures { λ r. ⌜ r ≡ headOf header ⌝ }
+{
+    let kind = header.kind;
+    Head {
+        kind: kind.number(),
+        at: header.at,
+        len: header.len,
+    }
+}
+
+fn row_of(refusal: Refusal) -> Row
+    ensures { λ r. ⌜ r ≡ rowOf (refusalOnPaper refusal) ⌝ }
+{
+    let row = refusal.row();
+    let layer = row.layer;
+    let values = row.values;
+    Row {
+        number: row.number,
+        layer: layer.number(),
+        offset: row.offset,
+        values,
+    }
+}
+
+fn link_head(part: LinkPart) -> Head
+    ensures { λ r. ⌜ r ≡ linkHead part ⌝ }
+{
+    match part {
+        LinkPart::Nothing => no_head(),
+        LinkPart::Ethernet2(header) => head_of(header),
+    }
+}
+
+fn net_of(part: NetPart) -> Net
+    ensures { λ r. ⌜ r ≡ netOf part ⌝ }
+{
+    match part {
+        NetPart::Nothing => Net {
+            header: no_head(),
+            exts: Span { at: 0, len: 0 },
+            fragmented: false,
+        },
+        NetPart::Ip(ip) => {
+            let header = ip.header;
+            let exts = ip.exts;
+            Net {
+                header: head_of(header),
+                exts: Span {
+                    at: exts.at,
+                    len: exts.len,
+                },
+                fragmented: ip.fragmented,
+            }
+        }
+    }
+}
+
+fn transport_head(part: TransportPart) -> Head
+    ensures { λ r. ⌜ r ≡ transportHead part ⌝ }
+{
+    match part {
+        TransportPart::Nothing => no_head(),
+        TransportPart::Is(header) => head_of(header),
+    }
+}
+
+fn number_of(number: Number) -> usize
+    ensures { λ r. ⌜ r ≡ numberOf number ⌝ }
+{
+    match number {
+        Number::Link(ether_type) => ether_type.0 as usize,
+        Number::Ip(ip_number) => ip_number.0 as usize,
+    }
+}
+
+fn spans(tags: [Range; TAG_LIMIT]) -> [Span; TAG_LIMIT]
+    ensures { λ r. ⌜ r ≡ map spanOf tags ⌝ }
+{
+    let none = Span { at: 0, len: 0 };
+    let mut out = [none; TAG_LIMIT];
+    let mut i: usize = 0;
+    while i < TAG_LIMIT {
+        let tag = tags[i];
+        out[i] = Span {
+            at: tag.at,
+            len: tag.len,
+        };
+        i += 1;
+    }
+    out
+}
+
+// How the walk ended: what of a packet isn't a header.
+pub struct End {
+    pub status: usize,
+    pub payload: Span,
+    pub number: usize,
+    pub stop: usize,
+    pub refusal: Row,
+}
+
+fn end_of(outcome: Outcome) -> End
+    ensures { λ r. ⌜ r ≡ endOf (outcomeOnPaper outcome) ⌝ }
+{
+    match outcome {
+        Outcome::Accepted(ending) => {
+            let payload = ending.payload;
+            let number = ending.number;
+            let stop = ending.stop;
+            End {
+                status: THERE,
+                payload: Span {
+                    at: payload.at,
+                    len: payload.len,
+                },
+                number: number_of(number),
+                stop: stop.number(),
+                refusal: no_row(),
+            }
+        }
+        Outcome::Refused(refusal) => End {
+            status: REFUSED,
+            payload: Span { at: 0, len: 0 },
+            number: 0,
+            stop: 0,
+            refusal: row_of(refusal),
+        },
+    }
+}
+
+pub fn packet_by(sliced: SlicedPacket) -> Packet
+    ensures { λ r. ⌜ r ≡ packetBy (packetOnPaper sliced) ⌝ }
+{
+    let link = sliced.link;
+    let tags = sliced.tags;
+    let net = sliced.net;
+    let transport = sliced.transport;
+    let outcome = sliced.outcome;
+    let end = end_of(outcome);
+    let payload = end.payload;
+    let refusal = end.refusal;
+    Packet {
+        status: end.status,
+        link: link_head(link),
+        count: sliced.count,
+        tags: spans(tags),
+        net: net_of(net),
+        transport: transport_head(transport),
+        payload,
+        number: end.number,
+        stop: end.stop,
+        refusal,
+    }
+}
+
+// The answer to a number that no entry has.
+pub fn no_packet() -> Packet
+    ensures { λ r. ⌜ r ≡ sliceFor C.Unknown [] ⌝ }
+{
+    let none = Span { at: 0, len: 0 };
+    Packet {
+        status: NO_SUCH_ENTRY,
+        link: no_head(),
+        count: 0,
+        tags: [none; TAG_LIMIT],
+        net: net_of(NetPart::Nothing),
+        transport: no_head(),
+        payload: none,
+        number: 0,
+        stop: 0,
+        refusal: no_row(),
+    }
+}
+
+pub fn header_by(answer: HeaderAnswer) -> HeaderReply
+    ensures { λ r. ⌜ r ≡ headerBy (headerOnPaper answer) ⌝ }
+{
+    match answer {
+        HeaderAnswer::Is(header) => HeaderReply {
+            status: THERE,
+            header: head_of(header),
+            refusal: no_row(),
+        },
+        HeaderAnswer::NoMore => HeaderReply {
+            status: NO_MORE,
+            header: no_head(),
+            refusal: no_row(),
+        },
+        HeaderAnswer::Refused(refusal) => HeaderReply {
+            status: REFUSED,
+            header: no_head(),
+            refusal: row_of(refusal),
+        },
+    }
+}
+
+pub fn count_by(answer: CountAnswer) -> CountReply
+    ensures { λ r. ⌜ r ≡ countBy (countOnPaper answer) ⌝ }
+{
+    match answer {
+        CountAnswer::Is(count) => CountReply {
+            status: THERE,
+            count,
+            refusal: no_row(),
+        },
+        CountAnswer::Refused(refusal) => CountReply {
+            status: REFUSED,
+            count: 0,
+            refusal: row_of(refusal),
+        },
+    }
+}
+
+fn is_known(kind: OptionKind) -> bool
+    ensures { λ r. ⌜ r ≡ isKnown (kindOnPaper kind) ⌝ }
+{
+    match kind {
+        OptionKind::Noop => true,
+        OptionKind::MaximumSegmentSize => true,
+        OptionKind::WindowScale => true,
+        OptionKind::SelectiveAcknowledgementPermitted => true,
+        OptionKind::SelectiveAcknowledgement => true,
+        OptionKind::Timestamp => true,
+        OptionKind::Unknown(_number) => false,
+    }
+}
+
+pub fn option_by(answer: OptionAnswer) -> OptionReply
+    ensures { λ r. ⌜ r ≡ optionBy (optionOnPaper answer) ⌝ }
+{
+    match answer {
+        OptionAnswer::Is(option) => {
+            let kind = option.kind;
+            OptionReply {
+                status: THERE,
+                kind: kind.number() as usize,
+                at: option.at,
+                len: option.len,
+                number: 0,
+                offset: 0,
+                known: is_known(kind),
+            }
+        }
+        OptionAnswer::NoMore => OptionReply {
+            status: NO_MORE,
+            kind: 0,
+            at: 0,
+            len: 0,
+            number: 0,
+            offset: 0,
+            known: false,
+        },
+        OptionAnswer::Refused(refusal) => {
+            let row = refusal.row();
+            OptionReply {
+                status: REFUSED,
+                kind: 0,
+                at: 0,
+                len: 0,
+                number: row.number,
+                offset: row.offset,
+                known: false,
+            }
+        }
+    }
+}
