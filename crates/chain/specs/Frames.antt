@@ -24,7 +24,7 @@ use Rattle.chain.specs.Answers.{Sliced}
 
 -- ---- bytes
 
-zeros : ℕ → List ℕ
+unfoldable pub zeros : ℕ → List ℕ
 zeros n = replicate n 0
 
 two : ℕ → List ℕ

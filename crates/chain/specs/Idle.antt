@@ -3,7 +3,6 @@ use Prim.Native.Nat.{ℕ, _+_}
 use mathlib.Core.Path.{_≡_, refl}
 use mathlib.Core.List.{List, [], _∷_, _++_}
 use native.Mathlib.Omega.{arith}
-use lib.ListN.{replicate}
 use Rattle.rules.specs.declared.kind.Kind.the-variants.{Ethernet2}
 use Rattle.rules.specs.declared.place.Header.{Header}
 use Rattle.rules.specs.declared.refusal.Refusal.{Refusal}
@@ -22,13 +21,11 @@ use Rattle.steps.specs.declared.list.CountAnswer.the-variants as C
 use Rattle.chain.specs.Chain.{ChainOf}
 use Rattle.chain.specs.Walked.{Means, trace-means}
 use Rattle.chain.specs.OneChain.{not-both}
+use Rattle.chain.specs.Frames.{zeros}
 use Rattle.chain.specs.Accepted.{AcceptedIffChain}
 use Rattle.chain.specs.Headers.{here, later, HeadersInOrder, CountIsLength}
 
 -- ---- three frames: 13 bytes; 14 bytes of type 0; one tag of type 0
-
-zeros : ℕ → List ℕ
-zeros n = replicate n 0
 
 abbrev tagged : List ℕ
 tagged = zeros 12 ++ (0x81 ∷ zeros 5)
