@@ -21,6 +21,7 @@ use Rattle.slicer.specs.declared.packet.NetPart.{NetPart}
 use Rattle.slicer.specs.declared.packet.NetPart.the-variants as N
 use Rattle.slicer.specs.declared.packet.TransportPart.{TransportPart}
 use Rattle.slicer.specs.declared.packet.TransportPart.the-variants as T
+use Rattle.slicer.specs.declared.packet.SlicedPacket.{SlicedPacket}
 use Rattle.slicer.specs.Reply.{Reply, Ended, accepted, refused, replyOf, slots}
 use Rattle.tcp_options.specs.Options as O
 use Rattle.collector.specs.declared.Chosen.{Chosen}
@@ -30,7 +31,6 @@ use Rattle.collector.specs.declared.handed.Head.{Head}
 use Rattle.collector.specs.declared.handed.Row.{Row}
 use Rattle.collector.specs.declared.handed.Net.{Net}
 use Rattle.collector.specs.declared.handed.Packet.{Packet}
-use Rattle.collector.specs.declared.reply.End.{End}
 use Rattle.collector.specs.declared.handed.HeaderReply.{HeaderReply}
 use Rattle.collector.specs.declared.handed.CountReply.{CountReply}
 use Rattle.collector.specs.declared.handed.OptionReply.{OptionReply}
@@ -94,12 +94,21 @@ noRow = record { number = 0; layer = 0; offset = 0; values = 0 ∷ 0 ∷ 0 ∷ [
 
 -- ---- the reply to a frame
 
+-- how the walk ended: what of a packet is no part of the frame
+pub record End : Type 0 where
+  pub status : ℕ
+  pub payload : Span
+  pub number : ℕ
+  pub stop : ℕ
+  pub refusal : Row
+
+-- no walk was accepted
+abbrev pub unread : ℕ → Row → End
+unread status row = record { status = status; payload = span 0 0; number = 0; stop = 0; refusal = row }
+
 abbrev pub endOf : Ended → End
 endOf (accepted x) = record { status = there; payload = span (x .at) (x .len); number = numberOf (x .number); stop = x .why; refusal = noRow }
-endOf (refused q) = record { status = isRefused; payload = span 0 0; number = 0; stop = 0; refusal = rowOf q }
-
-abbrev pub noEntry : End
-noEntry = record { status = noSuchEntry; payload = span 0 0; number = 0; stop = 0; refusal = noRow }
+endOf (refused q) = unread isRefused (rowOf q)
 
 abbrev pub packet : LinkPart → ℕ → List Range → NetPart → TransportPart → End → Packet
 packet link count tags net transport end = record {
@@ -118,9 +127,16 @@ packet link count tags net transport end = record {
 abbrev pub packetBy : Reply → Packet
 packetBy r = packet (r .link) (r .count) (r .tags) (r .net) (r .transport) (endOf (r .ended))
 
+-- what was found in a frame, with the end given
+abbrev pub closed : SlicedPacket → Ended → Reply
+closed p e = record { link = p .link; tags = p .tags; count = p .count; net = p .net; transport = p .transport; ended = e }
+
+abbrev pub noParts : End → Packet
+noParts end = packet L.Nothing 0 (slots tagLimit []) N.Nothing T.Nothing end
+
 abbrev pub sliceFor : Chosen → List ℕ → Packet
 sliceFor (C.Is e) s = packetBy (replyOf (entryKind e) s)
-sliceFor C.Unknown s = packet L.Nothing 0 (slots tagLimit []) N.Nothing T.Nothing noEntry
+sliceFor C.Unknown s = noParts (unread noSuchEntry noRow)
 
 -- ---- header k, and the count
 

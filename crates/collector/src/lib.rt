@@ -16,6 +16,7 @@ use crate::handed::OptionReply;
 use crate::handed::Packet;
 use checksum::Sum16BitWords;
 use rules::Entry;
+use slicer::Outcome;
 
 pub mod handed;
 mod reply;
@@ -48,12 +49,19 @@ pub extern "C" fn bhirkulom_slice(frame: &[u8], entry: usize) -> Packet
     ensures unwritten { λ r. ⌜ now (frame .exit) ≡ now (frame .entry) ⌝ }
 {
     let chosen = entry_by(entry);
-    match chosen {
-        Chosen::Is(known) => {
-            let sliced = slicer::slice(frame, known);
-            reply::packet_by(sliced)
+    let Chosen::Is(known) = chosen else {
+        return reply::no_packet();
+    };
+    let sliced = slicer::slice(frame, known);
+    let outcome = sliced.outcome;
+    // a `return` in each arm: a value out of the match would be put together in memory and copied (docs/SPEED.md)
+    match outcome {
+        Outcome::Accepted(ending) => {
+            return reply::accepted_packet(sliced, ending);
         }
-        Chosen::Unknown => reply::no_packet(),
+        Outcome::Refused(refusal) => {
+            return reply::refused_packet(refusal);
+        }
     }
 }
 

@@ -3,7 +3,8 @@ ghost use mathlib.Core.Path.{_≡_};
 ghost use mathlib.Core.List.{[], map};
 ghost use Rattle.rules.specs.Numbers.{tagLimit};
 ghost use Rattle.rules.specs.Paper.{refusalOnPaper};
-ghost use Rattle.slicer.specs.Reply.{outcomeOnPaper, packetOnPaper};
+ghost use Rattle.rules.specs.Place.{endingOnPaper};
+ghost use Rattle.slicer.specs.Reply.{accepted, refusedBy};
 ghost use Rattle.steps.specs.Lists.{headerOnPaper, countOnPaper};
 ghost use Rattle.tcp_options.specs.Paper.{kindOnPaper, optionOnPaper};
 ghost use Rattle.collector.specs.declared.Chosen.the-variants as C;
@@ -17,7 +18,9 @@ ghost use Rattle.collector.specs.Handed.{
   numberOf,
   rowOf,
   noRow,
-  endOf,
+  unread,
+  noParts,
+  closed,
   packetBy,
   sliceFor,
   headerBy,
@@ -33,6 +36,7 @@ use crate::handed::OptionReply;
 use crate::handed::Packet;
 use crate::handed::Row;
 use crate::handed::Span;
+use rules::Ending;
 use rules::Header;
 use rules::Number;
 use rules::Range;
@@ -40,7 +44,6 @@ use rules::Refusal;
 use rules::ether_type::TAG_LIMIT;
 use slicer::LinkPart;
 use slicer::NetPart;
-use slicer::Outcome;
 use slicer::SlicedPacket;
 use slicer::TransportPart;
 use steps::CountAnswer;
@@ -171,76 +174,41 @@ fn spans(tags: [Range; TAG_LIMIT]) -> [Span; TAG_LIMIT]
     out
 }
 
-// How the walk ended: what of a packet isn't a header.
-pub struct End {
-    pub status: usize,
-    pub payload: Span,
-    pub number: usize,
-    pub stop: usize,
-    pub refusal: Row,
-}
-
-fn end_of(outcome: Outcome) -> End
-    ensures { λ r. ⌜ r ≡ endOf (outcomeOnPaper outcome) ⌝ }
-{
-    match outcome {
-        Outcome::Accepted(ending) => {
-            let payload = ending.payload;
-            let number = ending.number;
-            let stop = ending.stop;
-            End {
-                status: THERE,
-                payload: Span {
-                    at: payload.at,
-                    len: payload.len,
-                },
-                number: number_of(number),
-                stop: stop.number(),
-                refusal: no_row(),
-            }
-        }
-        Outcome::Refused(refusal) => End {
-            status: REFUSED,
-            payload: Span { at: 0, len: 0 },
-            number: 0,
-            stop: 0,
-            refusal: row_of(refusal),
-        },
-    }
-}
-
-pub fn packet_by(sliced: SlicedPacket) -> Packet
-    ensures { λ r. ⌜ r ≡ packetBy (packetOnPaper sliced) ⌝ }
+// The packet of an accepted frame.
+pub fn accepted_packet(sliced: SlicedPacket, ending: Ending) -> Packet
+    ensures { λ r. ⌜ r ≡ packetBy (closed sliced (accepted (endingOnPaper ending))) ⌝ }
 {
     let link = sliced.link;
     let tags = sliced.tags;
     let net = sliced.net;
     let transport = sliced.transport;
-    let outcome = sliced.outcome;
-    let end = end_of(outcome);
-    let payload = end.payload;
-    let refusal = end.refusal;
+    let payload = ending.payload;
+    let number = ending.number;
+    let stop = ending.stop;
     Packet {
-        status: end.status,
+        status: THERE,
         link: link_head(link),
         count: sliced.count,
         tags: spans(tags),
         net: net_of(net),
         transport: transport_head(transport),
-        payload,
-        number: end.number,
-        stop: end.stop,
-        refusal,
+        payload: Span {
+            at: payload.at,
+            len: payload.len,
+        },
+        number: number_of(number),
+        stop: stop.number(),
+        refusal: no_row(),
     }
 }
 
-// The answer to a number that no entry has.
-pub fn no_packet() -> Packet
-    ensures { λ r. ⌜ r ≡ sliceFor C.Unknown [] ⌝ }
+// A packet that tells of no part.
+fn partless(status: usize, refusal: Row) -> Packet
+    ensures { λ r. ⌜ r ≡ noParts (unread status refusal) ⌝ }
 {
     let none = Span { at: 0, len: 0 };
     Packet {
-        status: NO_SUCH_ENTRY,
+        status,
         link: no_head(),
         count: 0,
         tags: [none; TAG_LIMIT],
@@ -249,8 +217,23 @@ pub fn no_packet() -> Packet
         payload: none,
         number: 0,
         stop: 0,
-        refusal: no_row(),
+        refusal,
     }
+}
+
+pub fn refused_packet(refusal: Refusal) -> Packet
+    ensures { λ r. ⌜ r ≡ packetBy (refusedBy (refusalOnPaper refusal)) ⌝ }
+{
+    let row = row_of(refusal);
+    partless(REFUSED, row)
+}
+
+// The answer to a number that no entry has.
+pub fn no_packet() -> Packet
+    ensures { λ r. ⌜ r ≡ sliceFor C.Unknown [] ⌝ }
+{
+    let row = no_row();
+    partless(NO_SUCH_ENTRY, row)
 }
 
 pub fn header_by(answer: HeaderAnswer) -> HeaderReply

@@ -1,4 +1,5 @@
 -- `bhirkulom_slice` meets its contract. Assumes nothing.
+use Rattle.collector.proofs.Closed.{closed-accepted, refused-alone}
 use Rattle.collector.specs.Handed.{packetBy}
 use mathlib.Core.Path.{refl, ap, _∙_}
 use borrow.Author.Needs.{needs}
@@ -11,12 +12,6 @@ entry-by-requires c κs = search needs
 enum-known-chosen : tie.Need-enum-known-chosen
 enum-known-chosen c = search needs
 
-slice-requires : tie.Need-slice-requires
-slice-requires c κs = search needs
-
-packet-by-requires : tie.Need-packet-by-requires
-packet-by-requires c κs = search needs
-
 enum-told : tie.Need-enum-told
 enum-told c = search needs
 
@@ -24,10 +19,28 @@ no-packet-requires : tie.Need-no-packet-requires
 no-packet-requires c κs = search needs
 
 returns : tie.Need-returns
-returns c = (rw (← c .before .before .before .before .before .entry-by .ensures, c .before .before .before .chosen .given .1) (c .packet-by .ensures ∙ ap packetBy (c .before .slice .ensures .0)), refl)
+returns c = (rw (← c .before .before .before .entry-by .ensures, c .before .enum-told .given .1) (c .no-packet .ensures), refl)
+
+slice-requires : tie.Need-slice-requires
+slice-requires c κs = search needs
+
+enum-known-outcome : tie.Need-enum-known-outcome
+enum-known-outcome c = search needs
+
+accepted-packet-requires : tie.Need-accepted-packet-requires
+accepted-packet-requires c κs = search needs
 
 returns-2 : tie.Need-returns-2
-returns-2 c = (rw (← c .before .before .before .entry-by .ensures, c .before .enum-told .given .1) (c .no-packet .ensures), refl)
+returns-2 c = (rw (← c .before .before .before .before .before .before .before .before .entry-by .ensures, c .before .before .before .before .before .before .chosen .given .1) (c .accepted-packet .ensures ∙ closed-accepted _ _ _ (c .before .before .outcome .given .1) (c .before .before .before .before .slice .ensures .0)), refl)
+
+enum-known-outcome-2 : tie.Need-enum-known-outcome-2
+enum-known-outcome-2 c = search needs
+
+refused-packet-requires : tie.Need-refused-packet-requires
+refused-packet-requires c κs = search needs
+
+returns-3 : tie.Need-returns-3
+returns-3 c = (rw (← c .before .before .before .before .before .before .before .before .entry-by .ensures, c .before .before .before .before .before .before .chosen .given .1) (c .refused-packet .ensures ∙ ap packetBy (refused-alone _ _ _ _ (c .before .before .outcome2 .given .1) (c .before .before .before .before .slice .ensures .0))), refl)
 
 pub bhirkulom-slice-spec : {M : Type 1} → statement M
 bhirkulom-slice-spec =
@@ -35,9 +48,13 @@ bhirkulom-slice-spec =
     (tie.spec
     entry-by-requires
     enum-known-chosen
-    slice-requires
-    packet-by-requires
     enum-told
     no-packet-requires
     returns
-    returns-2)
+    slice-requires
+    enum-known-outcome
+    accepted-packet-requires
+    returns-2
+    enum-known-outcome-2
+    refused-packet-requires
+    returns-3)

@@ -1,0 +1,40 @@
+-- How a reply that was matched by its outcome is the frame's reply.
+use mathlib.Core.Path.{_≡_, refl, sym, ap, _∙_}
+use Prim.Native.Nat.{ℕ}
+use native.Mathlib.Omega.{arith}
+use mathlib.Core.List.{List}
+use Rattle.rules.specs.declared.kind.Kind.{Kind}
+use Rattle.rules.specs.declared.refusal.Refusal.{Refusal}
+use Rattle.rules.specs.declared.refusal.Row.{Row}
+use Rattle.rules.specs.declared.stop.Ending.{Ending}
+use Rattle.rules.specs.Paper.{refusalOnPaper}
+use Rattle.rules.specs.Place.{endingOnPaper}
+use Rattle.rules.specs.Walk.{Trace, Entry, slices}
+use Rattle.rules.specs.Walk as W
+use Rattle.laws.specs.Gather.{gathered}
+use Rattle.slicer.specs.declared.packet.Outcome.the-variants as O
+use Rattle.slicer.specs.declared.packet.SlicedPacket.{SlicedPacket}
+use Rattle.slicer.specs.Reply.{Reply, Ended, accepted, refused, nothing, sliceWay, refusedBy, replyOf, outcomeOnPaper, packetOnPaper}
+use Rattle.collector.specs.Handed.{closed, packetBy}
+
+pub closed-accepted : (p : SlicedPacket) (e : Ending) (r : Reply) → p .outcome ≡ O.Accepted e → packetOnPaper p ≡ r → packetBy (closed p (accepted (endingOnPaper e))) ≡ packetBy r
+closed-accepted p e r o h = ap (λ x. packetBy (closed p (outcomeOnPaper x))) (sym o) ∙ ap packetBy h
+
+abbrev isRefusal : Ended → ℕ
+isRefusal (accepted x) = 0
+isRefusal (refused q) = 1
+
+abbrev rowIn : Row → Ended → Row
+rowIn d (accepted x) = d
+rowIn d (refused q) = q
+
+refused-trace : (t : Trace Entry) (q : Row) → gathered sliceWay nothing t .ended ≡ refused q → refusedBy q ≡ gathered sliceWay nothing t
+unfolding gathered
+refused-trace (W.accepted hs x) q e = let z : _≡_ {A = ℕ} 0 1 = ap isRefusal e in absurd (omega arith)
+refused-trace (W.refused hs r) q e = ap refusedBy (sym (ap (rowIn q) e))
+refused-trace W.unfinished q e = ap refusedBy (sym (ap (rowIn q) e))
+
+-- "of a refused frame nothing else is told"
+pub refused-alone : (p : SlicedPacket) (q : Refusal) (k : Kind) (s : List ℕ) → p .outcome ≡ O.Refused q → packetOnPaper p ≡ replyOf k s → refusedBy (refusalOnPaper q) ≡ replyOf k s
+unfolding replyOf
+refused-alone p q k s o h = refused-trace (slices k s) (refusalOnPaper q) (sym (ap (λ r. r .ended) h) ∙ ap outcomeOnPaper o)
