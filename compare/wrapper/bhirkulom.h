@@ -145,6 +145,11 @@ struct bhirkulom_header_reply bhirkulom_header(const uint8_t *frame, size_t len,
 /* How many headers a frame has: there, refused, or no such entry. */
 struct bhirkulom_count_reply bhirkulom_count(const uint8_t *frame, size_t len, size_t entry);
 
+/* The headers of a frame from number k on, three numbers each: kind, offset, length. As many are written to heads as its room has whole
+ * threes for; all else of it stays as it was. The answer is the frame's count. Of a refused frame the headers before the refusal
+ * are written; it has none for all that, only its refusal. */
+struct bhirkulom_count_reply bhirkulom_headers(const uint8_t *frame, size_t len, size_t entry, size_t k, size_t *heads, size_t room);
+
 /* Option number k, from 0, of what follows byte 20 of a TCP header. */
 struct bhirkulom_option_reply bhirkulom_option(const uint8_t *bytes, size_t len, size_t k);
 

@@ -77,6 +77,7 @@ impl Checker {
             &count,
             &wanted.as_ref().map(Vec::len).map_err(|r| *r),
         );
+        self.same("list", frame, &ours::headers(our, frame), &wanted);
         let last = count.unwrap_or(0) + 1;
         for k in 0..=last {
             let wanted = match &wanted {

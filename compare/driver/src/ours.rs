@@ -43,6 +43,11 @@ pub fn header_at(entry: b::Entry, frame: &[u8], k: usize) -> o::HeaderAnswer {
     }
 }
 
+/// All headers from one walk.
+pub fn headers(entry: b::Entry, frame: &[u8]) -> Result<Vec<o::Header>, o::Refusal> {
+    b::headers(entry, frame).map(|h| h.map(header).map_err(refusal)).collect()
+}
+
 pub fn count(entry: b::Entry, frame: &[u8]) -> Result<usize, o::Refusal> {
     b::count(entry, frame).map_err(refusal)
 }

@@ -40,6 +40,12 @@ static void f12(void) {
     check("F12 header 2", h.status == BHIRKULOM_THERE && head_is(h.header, BHIRKULOM_KIND_IPV4, 18, 20));
     h = bhirkulom_header(frame, 60, BHIRKULOM_ETHERNET, 4);
     check("F12 no header 4", h.status == BHIRKULOM_NO_MORE && head_is(h.header, 0, 0, 0));
+    size_t heads[8] = {0, 0, 0, 0, 0, 0, 77, 78};
+    n = bhirkulom_headers(frame, 60, BHIRKULOM_ETHERNET, 1, heads, 8);
+    check("F12 headers from 1", n.status == BHIRKULOM_THERE && n.count == 4);
+    check("F12 listed header 1", heads[0] == BHIRKULOM_KIND_VLAN && heads[1] == 14 && heads[2] == 4);
+    check("F12 listed header 2", heads[3] == BHIRKULOM_KIND_IPV4 && heads[4] == 18 && heads[5] == 20);
+    check("F12 no room for header 3", heads[6] == 77 && heads[7] == 78);
     check("F12 unwritten", memcmp(before, frame, 60) == 0);
 }
 
@@ -55,6 +61,8 @@ static void refused(void) {
     check("version before IHL", r.number == BHIRKULOM_IPV4_VERSION && r.values[0] == 5 && r.values[1] == 0);
     struct bhirkulom_count_reply n = bhirkulom_count(frame, 20, BHIRKULOM_IPV6);
     check("IPv6 too short", n.status == BHIRKULOM_REFUSED && n.count == 0 && n.refusal.values[0] == 40);
+    n = bhirkulom_headers(frame, 13, BHIRKULOM_ETHERNET, 0, NULL, 0);
+    check("F1 no headers", n.status == BHIRKULOM_REFUSED && n.count == 0 && n.refusal.number == BHIRKULOM_TOO_SHORT);
     p = bhirkulom_slice(frame, 0, BHIRKULOM_ETHERNET);
     check("no bytes", p.status == BHIRKULOM_REFUSED && p.refusal.values[1] == 0);
 }

@@ -98,6 +98,7 @@ extern "C" {
     fn bhirkulom_slice(frame: *const u8, len: usize, entry: usize) -> Packet;
     fn bhirkulom_header(frame: *const u8, len: usize, entry: usize, k: usize) -> HeaderReply;
     fn bhirkulom_count(frame: *const u8, len: usize, entry: usize) -> CountReply;
+    fn bhirkulom_headers(frame: *const u8, len: usize, entry: usize, k: usize, heads: *mut usize, room: usize) -> CountReply;
     fn bhirkulom_option(bytes: *const u8, len: usize, k: usize) -> OptionReply;
     fn bhirkulom_sum_add(sum: u16, bytes: *const u8, len: usize) -> u16;
     fn bhirkulom_sum_answer(sum: u16) -> u16;
@@ -106,7 +107,8 @@ extern "C" {
 
 // Every unsafe block below is sound for one reason: the function has no `requires`. Its proof covers any bytes and any
 // numbers, and it reads only the `len` bytes from the pointer, writes to none and keeps no pointer. A Rust slice lends
-// exactly such bytes: its pointer isn't null, its `len` bytes are initialised and nobody writes them for the call.
+// exactly such bytes: its pointer isn't null, its `len` bytes are initialised and nobody writes them for the call. Numbers
+// that are lent to be written come as a `&mut` slice, which nobody else reads or writes for the call.
 
 pub fn slice(frame: &[u8], entry: usize) -> Packet {
     // SAFETY: pointer and length are one slice's, and any entry number gets an answer
@@ -121,6 +123,11 @@ pub fn header(frame: &[u8], entry: usize, k: usize) -> HeaderReply {
 pub fn count(frame: &[u8], entry: usize) -> CountReply {
     // SAFETY: pointer and length are one slice's, and any entry number gets an answer
     unsafe { bhirkulom_count(frame.as_ptr(), frame.len(), entry) }
+}
+
+pub fn headers(frame: &[u8], entry: usize, k: usize, heads: &mut [usize]) -> CountReply {
+    // SAFETY: each pointer and its length are one slice's, and any entry number and any k get an answer
+    unsafe { bhirkulom_headers(frame.as_ptr(), frame.len(), entry, k, heads.as_mut_ptr(), heads.len()) }
 }
 
 pub fn option(bytes: &[u8], k: usize) -> OptionReply {

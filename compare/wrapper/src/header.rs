@@ -112,7 +112,7 @@ pub fn count(entry: Entry, frame: &[u8]) -> Result<usize, Refusal> {
 
 /// The headers of a frame, in order; of a refused frame its refusal, once.
 ///
-/// Each header is asked for by its number and so walked to from the start: n headers cost n walks.
+/// The frame is walked once; a second time if it has more than 16 headers, whose numbers are then kept on the heap.
 ///
 /// ```
 /// use bhirkulom::{headers, Entry};
@@ -127,32 +127,49 @@ pub fn count(entry: Entry, frame: &[u8]) -> Result<usize, Refusal> {
 /// assert_eq!(headers(Entry::Ipv6, &packet[..39]).filter(|h| h.is_err()).count(), 1);
 /// ```
 pub fn headers(entry: Entry, frame: &[u8]) -> Headers<'_> {
-    Headers {
-        entry,
-        frame,
-        next: Some(0),
+    let mut few = [0; NUMBERS * FEW];
+    let mut many = Vec::new();
+    let reply = boundary::headers(frame, entry as usize, 0, &mut few);
+    if reply.count > FEW {
+        many = vec![0; NUMBERS * reply.count];
+        boundary::headers(frame, entry as usize, 0, &mut many);
     }
+    let refusal = (reply.status == REFUSED).then(|| Refusal::from_row(&reply.refusal));
+    Headers { frame, few, many, next: 0, count: reply.count, refusal }
 }
+
+/// How many numbers tell of a header: its kind, its offset and its length.
+const NUMBERS: usize = 3;
+
+/// How many headers are kept without the heap.
+const FEW: usize = 16;
 
 /// The iterator of [`headers`].
 #[derive(Clone, Debug)]
 pub struct Headers<'a> {
-    entry: Entry,
     frame: &'a [u8],
-    // none behind the last answer
-    next: Option<usize>,
+    few: [usize; NUMBERS * FEW],
+    // empty where the few suffice
+    many: Vec<usize>,
+    next: usize,
+    count: usize,
+    refusal: Option<Refusal>,
 }
 
 impl<'a> Iterator for Headers<'a> {
     type Item = Result<HeaderSlice<'a>, Refusal>;
 
     fn next(&mut self) -> Option<Self::Item> {
-        let k = self.next?;
-        let answer = header(self.entry, self.frame, k).transpose();
-        self.next = match answer {
-            Some(Ok(_)) => Some(k + 1),
-            _ => None,
-        };
-        answer
+        if let Some(refusal) = self.refusal.take() {
+            return Some(Err(refusal));
+        }
+        if self.next == self.count {
+            return None;
+        }
+        let numbers = if self.many.is_empty() { &self.few[..] } else { &self.many };
+        let at = NUMBERS * self.next;
+        self.next += 1;
+        let head = Head { kind: numbers[at], at: numbers[at + 1], len: numbers[at + 2] };
+        Some(Ok(HeaderSlice::new(self.frame, head)))
     }
 }

@@ -1,0 +1,77 @@
+//! What is timed: each job done by the proved library and by Rust, on frames of several kinds.
+
+use crate::mix::{self, Frame};
+use crate::{boundary, cursor, list, same, sum, walk};
+use bhirkulom::SlicedPacket;
+use std::hint::black_box;
+
+/// Numbers lent to a list of headers: room for those of the longest chain.
+pub const ROOM: usize = 3 * 8192;
+
+/// One side of a job: does it once. The lent numbers are written over each time and cleared by nobody.
+pub type Run = fn(&[u8], &mut [usize]);
+
+pub struct Job {
+    pub name: &'static str,
+    pub frames: Vec<Frame>,
+    /// The first is the proved library's, the second the one that it is held to; the others are there to be seen.
+    pub sides: &'static [(&'static str, Run)],
+}
+
+fn nothing(s: &[u8], _: &mut [usize]) {
+    black_box(s);
+}
+
+fn slice(s: &[u8], _: &mut [usize]) {
+    black_box(&boundary::slice(s, 1));
+}
+
+fn slice_rust(s: &[u8], _: &mut [usize]) {
+    black_box(&same::slice(s));
+}
+
+fn slice_own(s: &[u8], _: &mut [usize]) {
+    black_box(&walk::slice(s));
+}
+
+fn slice_wrapper(s: &[u8], _: &mut [usize]) {
+    black_box(&SlicedPacket::from_ethernet(s));
+}
+
+fn list(s: &[u8], heads: &mut [usize]) {
+    black_box(&boundary::headers(s, 1, 0, heads));
+}
+
+fn list_rust(s: &[u8], heads: &mut [usize]) {
+    black_box(&cursor::headers(s, heads));
+}
+
+fn list_straight(s: &[u8], heads: &mut [usize]) {
+    black_box(&list::headers(s, heads));
+}
+
+fn sum(s: &[u8], _: &mut [usize]) {
+    black_box(boundary::sum_add(0, s));
+}
+
+fn sum_rust(s: &[u8], _: &mut [usize]) {
+    black_box(sum::sum(s));
+}
+
+/// The loop alone, which is taken off every figure.
+pub const NOTHING: Run = nothing;
+
+pub const SLICE: &[(&str, Run)] =
+    &[("library", slice), ("rust", slice_rust), ("rust, own types", slice_own), ("wrapper", slice_wrapper)];
+
+pub const LIST: &[(&str, Run)] = &[("library", list), ("rust", list_rust), ("rust, straight", list_straight)];
+
+pub const SUM: &[(&str, Run)] = &[("library", sum), ("rust", sum_rust)];
+
+pub fn jobs() -> Vec<Job> {
+    vec![
+        Job { name: "slice", frames: mix::mix(), sides: SLICE },
+        Job { name: "list", frames: mix::mix(), sides: LIST },
+        Job { name: "checksum", frames: mix::lengths(), sides: SUM },
+    ]
+}
