@@ -1,18 +1,19 @@
 -- Headers by number and their count, as one walk gathers them.
 use Prim.Native.Nat.{ℕ, _+_}
 use mathlib.Core.Path.{_≡_}
-use mathlib.Core.List.{[]}
+use mathlib.Core.List.{List, [], _∷_, map}
 use mathlib.Core.Bool.{true, false}
 use lib.Dec.{eqb}
+use lib.ListN.{drop}
 use Rattle.rules.specs.declared.kind.Kind.the-variants.{Ethernet2}
 use Rattle.rules.specs.declared.kind.Layer.the-variants.{Of}
 use Rattle.rules.specs.declared.place.Header.{Header}
 use Rattle.rules.specs.declared.refusal.Refusal.{Refusal}
 use Rattle.rules.specs.declared.refusal.Row.{Row}
 use Rattle.rules.specs.Test.{pick, row}
-use Rattle.rules.specs.Paper.{refusalOnPaper}
+use Rattle.rules.specs.Paper.{kindNumber, refusalOnPaper}
 use Rattle.rules.specs.Place.{refuses}
-use Rattle.rules.specs.Walk.{header, Answer, is, no-more, refusal}
+use Rattle.rules.specs.Walk.{Trace, accepted, refused as turned, unfinished, Entry, header, Answer, is, no-more, refusal}
 use Rattle.laws.specs.Gather.{Way}
 use Rattle.steps.specs.declared.list.HeaderAnswer.{HeaderAnswer}
 use Rattle.steps.specs.declared.list.HeaderAnswer.the-variants as H
@@ -34,6 +35,27 @@ headerOnPaper (H.Refused r) = refusal (refusalOnPaper r)
 abbrev pub countOnPaper : CountAnswer → Answer ℕ
 countOnPaper (C.Is n) = is n
 countOnPaper (C.Refused r) = refusal (refusalOnPaper r)
+
+-- ---- the headers laid out as numbers
+
+-- the headers read whole, in order, also of a refused frame
+unfoldable pub met : Trace Entry → List Header
+met (accepted hs x) = map header hs
+met (turned hs r) = map header hs
+met unfinished = []
+
+-- the headers written over the numbers from their start: kind, offset and length of each, as far as there is room for all
+-- three; every other number stays
+unfoldable pub lay : List Header → List ℕ → List ℕ
+lay [] out = out
+lay (h ∷ hs) (a ∷ b ∷ c ∷ out) = kindNumber (h .kind) ∷ h .at ∷ h .len ∷ lay hs out
+lay (h ∷ hs) (a ∷ b ∷ []) = a ∷ b ∷ []
+lay (h ∷ hs) (a ∷ []) = a ∷ []
+lay (h ∷ hs) [] = []
+
+-- the same from header number k on
+unfoldable pub laid : ℕ → List Header → List ℕ → List ℕ
+laid k hs out = lay (drop k hs) out
 
 -- ---- the walk that gathers both
 

@@ -8,6 +8,7 @@ pub use list::CountAnswer;
 pub use list::HeaderAnswer;
 pub use list::count;
 pub use list::header;
+pub use list::headers;
 pub use place::Step;
 pub use place::first;
 pub use place::next;

@@ -12,6 +12,8 @@ ghost use Rattle.steps.specs.Lists.{
   listOnPaper,
   headerOnPaper,
   countOnPaper,
+  met,
+  laid,
   ReadingShut,
 };
 use crate::step::Reading;
@@ -145,6 +147,61 @@ fn walk_list(s: &[u8], entry: Entry, k: usize) -> ListRead
             }
             Turn::Late => {
                 return ListRead::Refused(Refusal::HopByHopNotAtStart { offset: past });
+            }
+        }
+    }
+}
+
+// The headers of a frame from number k on, three numbers each (kind, offset, length), as many as the lent numbers have
+// room for; the answer is how many headers the frame has.
+pub fn headers(s: &[u8], entry: Entry, k: usize, out: &mut [usize]) -> CountAnswer
+    ensures answer { λ r. ⌜ countOnPaper r ≡ countOf (slices (entryKind entry) (now (s .entry))) ⌝ }
+    ensures listed { λ r. ⌜ now (out .exit) ≡ laid k (met (slices (entryKind entry) (now (s .entry)))) (now (out .entry)) ⌝ }
+    ensures unwritten { λ r. ⌜ now (s .exit) ≡ now (s .entry) ⌝ }
+{
+    let mut kind = entry_kind(entry);
+    let mut at: usize = 0;
+    let mut end = s.len();
+    let mut tags: usize = 0;
+    let mut version: usize = 0;
+    let mut source = RoomSource::Slice;
+    let mut mark = false;
+    let mut count: usize = 0;
+    let room = out.len() / 3;
+    loop {
+        let reading = read_at(s, kind, at, end, tags, version, source, mark);
+        let Reading::Whole(x) = reading else {
+            return CountAnswer::Refused(reading_refusal(reading));
+        };
+        let past = at + x.len;
+        if k <= count {
+            let to = count - k;
+            if to < room {
+                let base = 3 * to;
+                let second = base + 1;
+                let third = base + 2;
+                out[base] = kind.number();
+                out[second] = at;
+                out[third] = x.len;
+            }
+        }
+        count += 1;
+        let turn = x.turn;
+        match turn {
+            Turn::Opens(next) => {
+                tags = tags_with(next, tags);
+                kind = next;
+                at = past;
+                end = x.end;
+                version = x.version;
+                source = x.source;
+                mark = x.mark;
+            }
+            Turn::Stops(_) => {
+                return CountAnswer::Is(count);
+            }
+            Turn::Late => {
+                return CountAnswer::Refused(Refusal::HopByHopNotAtStart { offset: past });
             }
         }
     }
