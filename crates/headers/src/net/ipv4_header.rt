@@ -4,7 +4,6 @@ ghost use Rattle.headers.specs.Says.{ipOnPaper, ipSays};
 ghost use Rattle.rules.specs.declared.kind.Kind.the-variants as K;
 use crate::net::IpHeader;
 use crate::net::IpRead;
-use crate::net::fragmenting;
 use crate::too_short;
 use rules::Bound;
 use rules::Fault;
@@ -53,7 +52,8 @@ pub fn read_ipv4(w: &[u8]) -> IpRead
         });
     }
     let word = be16(w, 6);
-    let fragmented = fragmenting(word % 0x2000, word / 0x2000 % 2);
+    // the more-fragments bit and the offset below it, in one test
+    let fragmented = word % 0x4000 != 0;
     IpRead::Whole(IpHeader {
         len,
         declared: total,

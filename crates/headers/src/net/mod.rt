@@ -11,11 +11,11 @@ pub mod ipv6_header;
 pub mod ipv6_raw_ext_header;
 
 pub struct IpHeader {
+    pub names: IpNumber,
+    pub fragmented: bool,
     pub len: usize,
     // the declared length: total length, or 40 + payload length; 0 where the payload length is 0
     pub declared: usize,
-    pub names: IpNumber,
-    pub fragmented: bool,
 }
 
 pub enum IpRead {
@@ -24,9 +24,9 @@ pub enum IpRead {
 }
 
 pub struct ExtHeader {
-    pub len: usize,
     pub names: IpNumber,
     pub fragmenting: bool,
+    pub len: usize,
 }
 
 pub enum ExtRead {
