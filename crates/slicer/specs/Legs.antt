@@ -3,27 +3,30 @@
 use Prim.Native.Nat.{ℕ, zero, suc, _+_, _-_, _≤_}
 use mathlib.Core.Path.{_≡_}
 use mathlib.Core.List.{List, [], _∷_}
-use mathlib.Core.Bool.{Bool, true, false}
+use mathlib.Core.Bool.{Bool, true, false, _||_}
 use lib.ListN.{length}
+use lib.Dec.{eqb}
 use Rattle.rules.specs.declared.ether_type.EtherType.{EtherType}
 use Rattle.rules.specs.declared.ip_number.IpNumber.{IpNumber}
 use Rattle.rules.specs.declared.kind.Kind.{Kind}
-use Rattle.rules.specs.declared.kind.Kind.the-variants.{Ethernet2, Ipv6}
+use Rattle.rules.specs.declared.kind.Kind.the-variants.{Ethernet2, Ipv4, Ipv6}
 use Rattle.rules.specs.declared.kind.RoomSource.{RoomSource}
 use Rattle.rules.specs.declared.kind.RoomSource.the-variants as S
 use Rattle.rules.specs.declared.place.Header.{Header}
+use Rattle.rules.specs.declared.place.Number.{Number}
 use Rattle.rules.specs.declared.place.Number.the-variants.{Link, Ip}
 use Rattle.rules.specs.declared.place.Place.{Place}
 use Rattle.rules.specs.declared.place.Range.{Range}
 use Rattle.rules.specs.declared.place.Room.{Room}
 use Rattle.rules.specs.declared.refusal.Refusal.{Refusal}
 use Rattle.rules.specs.declared.refusal.Row.{Row}
-use Rattle.rules.specs.Numbers.{ethernetLength, tagLength, tagLimit}
+use Rattle.rules.specs.Numbers.{ethernetLength, tagLength, tagLimit, ipv4Type, ipv6Type}
 use Rattle.rules.specs.Test.{pick}
 use Rattle.rules.specs.Paper.{refusalOnPaper}
 use Rattle.rules.specs.Rules.{rule, isTag, link, transport, chain6}
 use Rattle.rules.specs.Place.{room, place, start, follow, endingOnPaper}
 use Rattle.laws.specs.Gather.{gather, rest}
+use Rattle.rules.specs.declared.stop.Ending.{Ending}
 use Rattle.rules.specs.declared.stop.Stop.{Stop}
 use Rattle.rules.specs.declared.stop.Stop.the-variants as Z
 use Rattle.headers.specs.declared.transport.TransportHeader.{TransportHeader}
@@ -92,6 +95,9 @@ linkParts linked tags = record { link = pick linked (withLink nothing ethernetHe
 abbrev pub foundBy : LinkFound → NetPart → TransportPart → Parts
 foundBy x net transport = record { link = linkParts (x .linked) 0 .link; tags = tagsFrom ethernetLength (x .tags); net = net; transport = transport }
 
+abbrev pub endingBy : Range → Number → Stop → Ending
+endingBy payload number stop = record { payload = payload; number = number; stop = stop }
+
 abbrev pub linkRoom : List ℕ → ℕ → Room
 linkRoom s tags = room (length s) tags 0 0 S.Slice false
 
@@ -115,6 +121,13 @@ abbrev pub Tagged : List ℕ → EtherType → Ends LinkFound → Type 0
 Tagged s first = Linking s (onLink s 0 (linkParts true 0) first ethernetLength)
 
 -- ---- the net leg: whatever was found before (f), and however many tags are held (t)
+
+-- a link number that names an IP header, and that header's kind
+unfoldable pub isIp : ℕ → Bool
+isIp n = eqb n ipv4Type || eqb n ipv6Type
+
+unfoldable pub ipKind : ℕ → Kind
+ipKind n = pick (eqb n ipv4Type) Ipv4 Ipv6
 
 abbrev pub netPlace : List ℕ → Kind → ℕ → ℕ → Place
 netPlace s k at t = place k at (room (length s) t 0 1 S.Slice false)

@@ -5,13 +5,23 @@ ghost use lib.ListN.{length};
 ghost use Rattle.rules.specs.declared.kind.Kind.the-variants as K;
 ghost use Rattle.headers.specs.Says.{extOnPaper, extSays};
 ghost use Rattle.turns.specs.Turns.{kindOf};
-ghost use Rattle.slicer.specs.Legs.{Netted, netLegOnPaper, Extended, extsLegOnPaper, Shut};
+ghost use Rattle.slicer.specs.Legs.{
+  isIp,
+  ipKind,
+  Netted,
+  netLegOnPaper,
+  Extended,
+  extsLegOnPaper,
+  Shut,
+};
 use headers::ExtRead;
 use headers::IpRead;
+use rules::EtherType;
 use rules::IpNumber;
 use rules::Kind;
 use rules::Refusal;
 use rules::RoomSource;
+use rules::ether_type;
 use rules::ip_number;
 use turns::ExtKind;
 use turns::ExtTurn;
@@ -22,14 +32,14 @@ use turns::refuse_ip;
 
 // An IP header, where its extensions end and its room ends, and the number that names what follows.
 pub struct NetFound {
-    pub begin: usize,
-    pub len: usize,
-    pub at: usize,
-    pub end: usize,
     pub number: IpNumber,
     pub kind: Kind,
     pub source: RoomSource,
     pub mark: bool,
+    pub begin: usize,
+    pub len: usize,
+    pub at: usize,
+    pub end: usize,
 }
 
 pub enum NetLeg {
@@ -37,7 +47,7 @@ pub enum NetLeg {
     Refused(Refusal),
 }
 
-pub fn walk_ipv4(s: &[u8], at: usize) -> NetLeg
+fn walk_ipv4(s: &[u8], at: usize) -> NetLeg
     requires { ⌜ at ≤ length (now s) ⌝ }
     ensures { λ r. ⌜ Netted (now (s .entry)) K.Ipv4 at (netLegOnPaper r) ⌝ }
 {
@@ -143,7 +153,7 @@ fn exts_refusal(leg: ExtsLeg) -> Refusal
     }
 }
 
-pub fn walk_ipv6(s: &[u8], at: usize) -> NetLeg
+fn walk_ipv6(s: &[u8], at: usize) -> NetLeg
     requires { ⌜ at ≤ length (now s) ⌝ }
     ensures { λ r. ⌜ Netted (now (s .entry)) K.Ipv6 at (netLegOnPaper r) ⌝ }
 {
@@ -174,4 +184,25 @@ pub fn walk_ipv6(s: &[u8], at: usize) -> NetLeg
         source,
         mark: found.mark,
     })
+}
+
+// Whether a link number names an IP header.
+pub fn is_ip(number: EtherType) -> bool
+    ensures { λ r. ⌜ r ≡ isIp (number .0) ⌝ }
+{
+    if number.0 == ether_type::IPV4 {
+        return true;
+    }
+    number.0 == ether_type::IPV6
+}
+
+// The header that such a number names. Both versions come back at one place, so that what stands behind them is code once.
+pub fn walk_net(s: &[u8], number: EtherType, at: usize) -> NetLeg
+    requires { ⌜ at ≤ length (now s) ⌝ }
+    ensures { λ r. ⌜ Netted (now (s .entry)) (ipKind (number .0)) at (netLegOnPaper r) ⌝ }
+{
+    if number.0 == ether_type::IPV4 {
+        return walk_ipv4(s, at);
+    }
+    walk_ipv6(s, at)
 }

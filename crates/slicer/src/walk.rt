@@ -24,6 +24,7 @@ ghost use Rattle.slicer.specs.Legs.{
   tagsFrom,
   linkParts,
   foundBy,
+  endingBy,
   foundIp,
   onTransport,
   netRoom,
@@ -33,8 +34,8 @@ use crate::link::LinkLeg;
 use crate::link::walk_link;
 use crate::net::NetFound;
 use crate::net::NetLeg;
-use crate::net::walk_ipv4;
-use crate::net::walk_ipv6;
+use crate::net::is_ip;
+use crate::net::walk_net;
 use crate::packet::IpPart;
 use crate::packet::LinkPart;
 use crate::packet::NetPart;
@@ -52,7 +53,6 @@ use rules::Number;
 use rules::Range;
 use rules::Refusal;
 use rules::Stop;
-use rules::ether_type;
 use rules::ether_type::TAG_LIMIT;
 use rules::length;
 use turns::is_tag;
@@ -99,7 +99,8 @@ fn refused(refusal: Refusal) -> SlicedPacket
     }
 }
 
-// Tags stand one behind the other from the Ethernet header on, so their count tells where each is.
+// Tags stand one behind the other from the Ethernet header on, so their count tells where each is. The number of turns is
+// fixed, so that the compiler lays them out one after the other.
 fn tag_ranges(count: usize) -> [Range; TAG_LIMIT]
     requires { ⌜ count ≤ tagLimit ⌝ }
     ensures { λ r. ⌜ r ≡ slots tagLimit (tagsFrom ethernetLength count) ⌝ }
@@ -108,11 +109,13 @@ fn tag_ranges(count: usize) -> [Range; TAG_LIMIT]
     let mut tags = [none; TAG_LIMIT];
     let mut at = length::ETHERNET2;
     let mut i: usize = 0;
-    while i < count {
-        tags[i] = Range {
-            at,
-            len: length::VLAN,
-        };
+    while i < TAG_LIMIT {
+        if i < count {
+            tags[i] = Range {
+                at,
+                len: length::VLAN,
+            };
+        }
         at += length::VLAN;
         i += 1;
     }
@@ -132,15 +135,17 @@ fn link_part(linked: bool) -> LinkPart
     LinkPart::Nothing
 }
 
-// The reply of an accepted frame.
+// The reply of an accepted frame. Its ending comes in parts, so that it is put together only where it stands in the end.
 fn accepted(
     front: LinkFound,
     net: NetPart,
     transport: TransportPart,
-    ending: Ending,
+    payload: Range,
+    number: Number,
+    stop: Stop,
 ) -> SlicedPacket
     requires { ⌜ front .tags ≤ tagLimit ⌝ }
-    ensures { λ r. ⌜ packetOnPaper r ≡ acceptedBy (foundBy front net transport) (endingOnPaper ending) ⌝ }
+    ensures { λ r. ⌜ packetOnPaper r ≡ acceptedBy (foundBy front net transport) (endingOnPaper (endingBy payload number stop)) ⌝ }
 {
     let tags = tag_ranges(front.tags);
     let link = link_part(front.linked);
@@ -150,7 +155,11 @@ fn accepted(
         net,
         link,
         transport,
-        outcome: Outcome::Accepted(ending),
+        outcome: Outcome::Accepted(Ending {
+            payload,
+            number,
+            stop,
+        }),
     }
 }
 
@@ -191,7 +200,10 @@ fn slice_transport(s: &[u8], front: LinkFound, found: NetFound) -> SlicedPacket
     });
     let transport = x.transport;
     let ending = x.ending;
-    accepted(front, net, transport, ending)
+    let payload = ending.payload;
+    let last = ending.number;
+    let stop = ending.stop;
+    accepted(front, net, transport, payload, last, stop)
 }
 
 // Any bytes, of any length, get their reply.
@@ -205,29 +217,26 @@ pub fn slice(s: &[u8], entry: Entry) -> SlicedPacket
     };
     let number = front.number;
     let at = front.at;
-    if number.0 == ether_type::IPV4 {
-        let net = walk_ipv4(s, at);
+    if is_ip(number) {
+        let net = walk_net(s, number, at);
         let NetLeg::Open(found) = net else {
             return refused(net_refusal(net));
         };
         return slice_transport(s, front, found);
     }
-    if number.0 == ether_type::IPV6 {
-        let net = walk_ipv6(s, at);
-        let NetLeg::Open(found) = net else {
-            return refused(net_refusal(net));
-        };
-        return slice_transport(s, front, found);
-    }
-    let ending = Ending {
-        payload: Range {
-            at,
-            len: s.len() - at,
-        },
-        number: Number::Link(number),
-        stop: link_stop(number),
+    let payload = Range {
+        at,
+        len: s.len() - at,
     };
-    accepted(front, NetPart::Nothing, TransportPart::Nothing, ending)
+    let last = Number::Link(number);
+    accepted(
+        front,
+        NetPart::Nothing,
+        TransportPart::Nothing,
+        payload,
+        last,
+        link_stop(number),
+    )
 }
 
 impl SlicedPacket {

@@ -29,14 +29,14 @@ returns c = let z = ap transportLegOnPaper (c .before .before .enum-told .given 
 add-from : tie.Need-add-from
 add-from c = omega (arith, c .before .before .before .before .before .before .before .pre .1)
 
-sub-t16 : tie.Need-sub-t16
-sub-t16 c = omega (arith, c .before .before .before .before .before .before .before .pre .1)
+sub-t19 : tie.Need-sub-t19
+sub-t19 c = omega (arith, c .before .before .before .before .before .before .before .pre .1)
 
 accepted-requires : tie.Need-accepted-requires
-accepted-requires c κs = c .before .before .before .before .before .before .before .before .pre .0
+accepted-requires c κs = c .before .before .before .before .before .before .before .before .before .pre .0
 
 returns-2 : tie.Need-returns-2
-returns-2 c = λ k t. c .accepted .ensures ∙ sym (there (c .before .before .before .before .before .before .walk-transport .ensures) (ap transportLegOnPaper (c .before .before .before .before .leg .given .1)) (foundIp (c .before .before .before .before .before .before .before .before .before .args .found) (linkParts (c .before .before .before .before .before .before .before .before .before .args .front .linked) (c .before .before .before .before .before .before .before .before .before .args .front .tags))) k t refl)
+returns-2 c = λ k t. c .accepted .ensures ∙ sym (there (c .before .before .before .before .before .before .before .walk-transport .ensures) (ap transportLegOnPaper (c .before .before .before .before .before .leg .given .1)) (foundIp (c .before .before .before .before .before .before .before .before .before .before .args .found) (linkParts (c .before .before .before .before .before .before .before .before .before .before .args .front .linked) (c .before .before .before .before .before .before .before .before .before .before .args .front .tags))) k t refl)
 
 pub slice-transport-spec : {M : Type 1} → statement M
 slice-transport-spec =
@@ -49,6 +49,6 @@ slice-transport-spec =
     refused-requires
     returns
     add-from
-    sub-t16
+    sub-t19
     accepted-requires
     returns-2)
