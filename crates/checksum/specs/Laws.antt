@@ -4,8 +4,8 @@ use mathlib.Core.List.{List, [], _∷_, _++_}
 use mathlib.Core.Logic.{_⊎_, inl, inr}
 use Prim.Native.Nat.{ℕ, zero, suc, _+_, _*_, _-_, _/_, _%_, _^_, min, _≤_, _<_}
 use native.Mathlib.Omega.{arith}
-use lib.ListN.{length}
-use Rattle.checksum.specs.Sum.{base, ones, total, totals, fold, answer, noZero, addSlices}
+use lib.ListN.{length, take, drop, length-take, take-append-drop}
+use Rattle.checksum.specs.Sum.{base, ones, word, total, totals, fold, answer, noZero, addSlices}
 
 -- ---- the folded sum
 
@@ -42,6 +42,21 @@ fold-fold (suc n) b =
     let f = fold-is (suc n) in
     sym (fold-ones (fold (suc n) + b) (n / ones) (omega arith)) ∙ ap fold (omega arith)
 
+-- the carry of a number may be added to its low 16 bits
+pub fold-once : (x : ℕ) → fold (x / 2 ^ 16 + x % 2 ^ 16) ≡ fold x
+fold-once x = sym (fold-carry (x / 2 ^ 16) (x % 2 ^ 16)) ∙ ap fold (omega arith)
+
+-- a part of a sum may be folded before it is taken 256 times
+pub fold-base : (a b : ℕ) → fold (a + fold b * base) ≡ fold (a + b * base)
+fold-base a zero = ap fold (omega (arith, fold-is 0))
+fold-base a (suc n) =
+    let f = fold-is (suc n) in
+    sym (fold-ones (a + fold (suc n) * base) (n / ones * base) (omega arith)) ∙ ap fold (omega arith)
+
+-- RFC 1071, section 2(B), "Byte Order Independence": a word with its bytes exchanged, taken 256 times, counts as the word
+pub fold-exchanged : (n a b : ℕ) → fold (n + word b a * base) ≡ fold (n + word a b)
+fold-exchanged n a b = ap fold (omega arith) ∙ fold-carry b (n + a * base) ∙ ap fold (omega arith)
+
 -- ---- totals
 
 -- what follows an even number of bytes is added word by word
@@ -50,6 +65,15 @@ unfolding total
 total-append [] t e = omega arith
 total-append (a ∷ []) t e = absurd (omega arith)
 total-append (a ∷ b ∷ s) t e = omega (arith, total-append s t (omega arith))
+
+-- how many bytes a block has at most: its words, 32,768 then, come to less than 2^31
+abbrev pub blockLength : ℕ
+blockLength = 65536
+
+-- a block of even length and what follows it are added word by word
+pub total-block : (n : ℕ) (s : List ℕ) → n % 2 ≡ 0 → n ≤ length s → total (take n s) + total (drop n s) ≡ total s
+total-block n s e h =
+    sym (total-append (take n s) (drop n s) (simp length-take (omega arith))) ∙ ap total (take-append-drop n s)
 
 -- the totals of two lists of slices are those of the lists joined, whatever the slices' lengths
 pub totals-append : (a b : List (List ℕ)) → totals (a ++ b) ≡ totals a + totals b
