@@ -23,6 +23,7 @@ use Rattle.slicer.specs.declared.packet.TransportPart.{TransportPart}
 use Rattle.slicer.specs.declared.packet.TransportPart.the-variants as T
 use Rattle.slicer.specs.declared.packet.SlicedPacket.{SlicedPacket}
 use Rattle.slicer.specs.Reply.{Reply, Ended, accepted, refused, replyOf, slots}
+use Rattle.steps.specs.Lists.{met, laid}
 use Rattle.tcp_options.specs.Options as O
 use Rattle.collector.specs.declared.Chosen.{Chosen}
 use Rattle.collector.specs.declared.Chosen.the-variants as C
@@ -163,6 +164,11 @@ countBy (refusal q) = countReply isRefused 0 (rowOf q)
 abbrev pub countFor : Chosen → List ℕ → CountReply
 countFor (C.Is e) s = countBy (countOf (slices (entryKind e) s))
 countFor C.Unknown s = countReply noSuchEntry 0 noRow
+
+-- the numbers lent for a list of headers, with the headers from number k on
+abbrev pub headsFor : Chosen → List ℕ → ℕ → List ℕ → List ℕ
+headsFor (C.Is e) s k out = laid k (met (slices (entryKind e) s)) out
+headsFor C.Unknown s k out = out
 
 -- ---- option k
 

@@ -8,6 +8,7 @@ ghost use Rattle.collector.specs.Handed.{
   sliceFor,
   headerFor,
   countFor,
+  headsFor,
   optionBy,
 };
 use crate::handed::CountReply;
@@ -97,11 +98,30 @@ pub extern "C" fn bhirkulom_count(frame: &[u8], entry: usize) -> CountReply
             let counted = steps::count(frame, known);
             reply::count_by(counted)
         }
-        Chosen::Unknown => CountReply {
-            status: reply::NO_SUCH_ENTRY,
-            count: 0,
-            refusal: reply::no_row(),
-        },
+        Chosen::Unknown => reply::no_count(),
+    }
+}
+
+// The headers of a frame from number k on, three numbers each (kind, offset, length), as many as the lent numbers have room for; the
+// answer is the count. Of a refused frame the headers before the refusal are written; the answer is its refusal.
+#[no_mangle]
+pub extern "C" fn bhirkulom_headers(
+    frame: &[u8],
+    entry: usize,
+    k: usize,
+    heads: &mut [usize],
+) -> CountReply
+    ensures answer { λ r. ⌜ r ≡ countFor (entryBy entry) (now (frame .entry)) ⌝ }
+    ensures listed { λ r. ⌜ now (heads .exit) ≡ headsFor (entryBy entry) (now (frame .entry)) k (now (heads .entry)) ⌝ }
+    ensures unwritten { λ r. ⌜ now (frame .exit) ≡ now (frame .entry) ⌝ }
+{
+    let chosen = entry_by(entry);
+    match chosen {
+        Chosen::Is(known) => {
+            let counted = steps::headers(frame, known, k, heads);
+            reply::count_by(counted)
+        }
+        Chosen::Unknown => reply::no_count(),
     }
 }
 

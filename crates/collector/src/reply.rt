@@ -25,6 +25,7 @@ ghost use Rattle.collector.specs.Handed.{
   sliceFor,
   headerBy,
   countBy,
+  countFor,
   isKnown,
   optionBy,
 };
@@ -272,6 +273,17 @@ pub fn count_by(answer: CountAnswer) -> CountReply
             count: 0,
             refusal: row_of(refusal),
         },
+    }
+}
+
+// The count of a number that no entry has.
+pub fn no_count() -> CountReply
+    ensures { λ r. ⌜ r ≡ countFor C.Unknown [] ⌝ }
+{
+    CountReply {
+        status: NO_SUCH_ENTRY,
+        count: 0,
+        refusal: no_row(),
     }
 }
 

@@ -1,6 +1,6 @@
 -- `bhirkulom_count` meets its contract. Assumes nothing.
-use Rattle.collector.specs.Handed.{countBy}
 use mathlib.Core.Path.{refl, ap, _∙_}
+use Rattle.collector.specs.Handed.{countBy}
 use borrow.Author.Needs.{needs}
 use Rattle.collector.proofs.bhirkulom_count.Statement.{statement}
 use Rattle.collector.proofs.bhirkulom_count.Tie as tie
@@ -20,14 +20,14 @@ count-by-requires c κs = search needs
 enum-told : tie.Need-enum-told
 enum-told c = search needs
 
-no-row-requires : tie.Need-no-row-requires
-no-row-requires c κs = search needs
+no-count-requires : tie.Need-no-count-requires
+no-count-requires c κs = search needs
 
 returns : tie.Need-returns
 returns c = (rw (← c .before .before .before .before .before .entry-by .ensures, c .before .before .before .chosen .given .1) (c .count-by .ensures ∙ ap countBy (c .before .count .ensures .0)), refl)
 
 returns-2 : tie.Need-returns-2
-returns-2 c = (rw (← c .before .before .before .entry-by .ensures, c .before .enum-told .given .1, c .no-row .ensures), refl)
+returns-2 c = (rw (← c .before .before .before .entry-by .ensures, c .before .enum-told .given .1) (c .no-count .ensures), refl)
 
 pub bhirkulom-count-spec : {M : Type 1} → statement M
 bhirkulom-count-spec =
@@ -38,6 +38,6 @@ bhirkulom-count-spec =
     count-requires
     count-by-requires
     enum-told
-    no-row-requires
+    no-count-requires
     returns
     returns-2)
