@@ -15,10 +15,11 @@ use Rattle.laws.specs.Gather.{gathered}
 use Rattle.slicer.specs.declared.packet.Outcome.the-variants as O
 use Rattle.slicer.specs.declared.packet.SlicedPacket.{SlicedPacket}
 use Rattle.slicer.specs.Reply.{Reply, Ended, accepted, refused, nothing, sliceWay, refusedBy, replyOf, outcomeOnPaper, packetOnPaper}
-use Rattle.collector.specs.Handed.{closed, packetBy}
+use Rattle.collector.specs.declared.handed.Net.{Net}
+use Rattle.collector.specs.Handed.{linkHead, netOf, transportHead, endOf, packet, packetBy, acceptedWith}
 
-pub closed-accepted : (p : SlicedPacket) (e : Ending) (r : Reply) → p .outcome ≡ O.Accepted e → packetOnPaper p ≡ r → packetBy (closed p (accepted (endingOnPaper e))) ≡ packetBy r
-closed-accepted p e r o h = ap (λ x. packetBy (closed p (outcomeOnPaper x))) (sym o) ∙ ap packetBy h
+pub accepted-reply : (p : SlicedPacket) (n : Net) (e : Ending) (r : Reply) → p .outcome ≡ O.Accepted e → n ≡ netOf (p .net) → packetOnPaper p ≡ r → acceptedWith p n (endingOnPaper e) ≡ packetBy r
+accepted-reply p n e r o m h = ap (λ (z : Net). acceptedWith p z (endingOnPaper e)) m ∙ ap (λ x. packet (linkHead (p .link)) (p .count) (p .tags) (netOf (p .net)) (transportHead (p .transport)) (endOf (outcomeOnPaper x))) (sym o) ∙ ap packetBy h
 
 abbrev isRefusal : Ended → ℕ
 isRefusal (accepted x) = 0

@@ -13,10 +13,11 @@ use Rattle.rules.specs.declared.refusal.Row.{Row as PaperRow}
 use Rattle.rules.specs.Numbers.{tagLimit}
 use Rattle.rules.specs.Test.{pick}
 use Rattle.rules.specs.Paper.{kindNumber, layerNumber}
-use Rattle.rules.specs.Place.{entryKind}
+use Rattle.rules.specs.Place.{Stopped, entryKind}
 use Rattle.rules.specs.Walk.{Answer, is, no-more, refusal, headerOf, countOf, slices}
 use Rattle.slicer.specs.declared.packet.LinkPart.{LinkPart}
 use Rattle.slicer.specs.declared.packet.LinkPart.the-variants as L
+use Rattle.slicer.specs.declared.packet.IpPart.{IpPart}
 use Rattle.slicer.specs.declared.packet.NetPart.{NetPart}
 use Rattle.slicer.specs.declared.packet.NetPart.the-variants as N
 use Rattle.slicer.specs.declared.packet.TransportPart.{TransportPart}
@@ -75,9 +76,15 @@ abbrev pub linkHead : LinkPart → Head
 linkHead L.Nothing = noHead
 linkHead (L.Ethernet2 h) = headOf h
 
+abbrev pub noNet : Net
+noNet = record { header = noHead; exts = span 0 0; fragmented = false }
+
+abbrev pub netBy : IpPart → Net
+netBy i = record { header = headOf (i .header); exts = spanOf (i .exts); fragmented = i .fragmented }
+
 abbrev pub netOf : NetPart → Net
-netOf N.Nothing = record { header = noHead; exts = span 0 0; fragmented = false }
-netOf (N.Ip i) = record { header = headOf (i .header); exts = spanOf (i .exts); fragmented = i .fragmented }
+netOf N.Nothing = noNet
+netOf (N.Ip i) = netBy i
 
 abbrev pub transportHead : TransportPart → Head
 transportHead T.Nothing = noHead
@@ -111,14 +118,14 @@ abbrev pub endOf : Ended → End
 endOf (accepted x) = record { status = there; payload = span (x .at) (x .len); number = numberOf (x .number); stop = x .why; refusal = noRow }
 endOf (refused q) = unread isRefused (rowOf q)
 
-abbrev pub packet : LinkPart → ℕ → List Range → NetPart → TransportPart → End → Packet
+abbrev pub packet : Head → ℕ → List Range → Net → Head → End → Packet
 packet link count tags net transport end = record {
   status = end .status;
-  link = linkHead link;
+  link = link;
   count = count;
   tags = map spanOf tags;
-  net = netOf net;
-  transport = transportHead transport;
+  net = net;
+  transport = transport;
   payload = end .payload;
   number = end .number;
   stop = end .stop;
@@ -126,14 +133,14 @@ packet link count tags net transport end = record {
 }
 
 abbrev pub packetBy : Reply → Packet
-packetBy r = packet (r .link) (r .count) (r .tags) (r .net) (r .transport) (endOf (r .ended))
+packetBy r = packet (linkHead (r .link)) (r .count) (r .tags) (netOf (r .net)) (transportHead (r .transport)) (endOf (r .ended))
 
--- what was found in a frame, with the end given
-abbrev pub closed : SlicedPacket → Ended → Reply
-closed p e = record { link = p .link; tags = p .tags; count = p .count; net = p .net; transport = p .transport; ended = e }
+-- the packet of an accepted frame, its IP header handed over as n
+abbrev pub acceptedWith : SlicedPacket → Net → Stopped → Packet
+acceptedWith p n x = packet (linkHead (p .link)) (p .count) (p .tags) n (transportHead (p .transport)) (endOf (accepted x))
 
 abbrev pub noParts : End → Packet
-noParts end = packet L.Nothing 0 (slots tagLimit []) N.Nothing T.Nothing end
+noParts end = packet noHead 0 (slots tagLimit []) noNet noHead end
 
 abbrev pub sliceFor : Chosen → List ℕ → Packet
 sliceFor (C.Is e) s = packetBy (replyOf (entryKind e) s)

@@ -17,6 +17,7 @@ use crate::handed::OptionReply;
 use crate::handed::Packet;
 use checksum::Sum16BitWords;
 use rules::Entry;
+use slicer::NetPart;
 use slicer::Outcome;
 
 pub mod handed;
@@ -58,7 +59,15 @@ pub extern "C" fn bhirkulom_slice(frame: &[u8], entry: usize) -> Packet
     // a `return` in each arm: a value out of the match would be put together in memory and copied (docs/SPEED.md)
     match outcome {
         Outcome::Accepted(ending) => {
-            return reply::accepted_packet(sliced, ending);
+            let net = sliced.net;
+            match net {
+                NetPart::Nothing => {
+                    return reply::accepted_packet(sliced, reply::no_net(), ending);
+                }
+                NetPart::Ip(ip) => {
+                    return reply::accepted_packet(sliced, reply::net_by(ip), ending);
+                }
+            }
         }
         Outcome::Refused(refusal) => {
             return reply::refused_packet(refusal);

@@ -4,7 +4,7 @@ ghost use mathlib.Core.List.{[], map};
 ghost use Rattle.rules.specs.Numbers.{tagLimit};
 ghost use Rattle.rules.specs.Paper.{refusalOnPaper};
 ghost use Rattle.rules.specs.Place.{endingOnPaper};
-ghost use Rattle.slicer.specs.Reply.{accepted, refusedBy};
+ghost use Rattle.slicer.specs.Reply.{refusedBy};
 ghost use Rattle.steps.specs.Lists.{headerOnPaper, countOnPaper};
 ghost use Rattle.tcp_options.specs.Paper.{kindOnPaper, optionOnPaper};
 ghost use Rattle.collector.specs.declared.Chosen.the-variants as C;
@@ -13,14 +13,15 @@ ghost use Rattle.collector.specs.Handed.{
   headOf,
   noHead,
   linkHead,
-  netOf,
+  noNet,
+  netBy,
   transportHead,
   numberOf,
   rowOf,
   noRow,
   unread,
   noParts,
-  closed,
+  acceptedWith,
   packetBy,
   sliceFor,
   headerBy,
@@ -43,8 +44,8 @@ use rules::Number;
 use rules::Range;
 use rules::Refusal;
 use rules::ether_type::TAG_LIMIT;
+use slicer::IpPart;
 use slicer::LinkPart;
-use slicer::NetPart;
 use slicer::SlicedPacket;
 use slicer::TransportPart;
 use steps::CountAnswer;
@@ -116,27 +117,28 @@ fn link_head(part: LinkPart) -> Head
     }
 }
 
-fn net_of(part: NetPart) -> Net
-    ensures { λ r. ⌜ r ≡ netOf part ⌝ }
+pub fn no_net() -> Net
+    ensures { λ r. ⌜ r ≡ noNet ⌝ }
 {
-    match part {
-        NetPart::Nothing => Net {
-            header: no_head(),
-            exts: Span { at: 0, len: 0 },
-            fragmented: false,
+    Net {
+        header: no_head(),
+        exts: Span { at: 0, len: 0 },
+        fragmented: false,
+    }
+}
+
+pub fn net_by(ip: IpPart) -> Net
+    ensures { λ r. ⌜ r ≡ netBy ip ⌝ }
+{
+    let header = ip.header;
+    let exts = ip.exts;
+    Net {
+        header: head_of(header),
+        exts: Span {
+            at: exts.at,
+            len: exts.len,
         },
-        NetPart::Ip(ip) => {
-            let header = ip.header;
-            let exts = ip.exts;
-            Net {
-                header: head_of(header),
-                exts: Span {
-                    at: exts.at,
-                    len: exts.len,
-                },
-                fragmented: ip.fragmented,
-            }
-        }
+        fragmented: ip.fragmented,
     }
 }
 
@@ -175,13 +177,12 @@ fn spans(tags: [Range; TAG_LIMIT]) -> [Span; TAG_LIMIT]
     out
 }
 
-// The packet of an accepted frame.
-pub fn accepted_packet(sliced: SlicedPacket, ending: Ending) -> Packet
-    ensures { λ r. ⌜ r ≡ packetBy (closed sliced (accepted (endingOnPaper ending))) ⌝ }
+// The packet of an accepted frame, its IP header handed over as `net`.
+pub fn accepted_packet(sliced: SlicedPacket, net: Net, ending: Ending) -> Packet
+    ensures { λ r. ⌜ r ≡ acceptedWith sliced net (endingOnPaper ending) ⌝ }
 {
     let link = sliced.link;
     let tags = sliced.tags;
-    let net = sliced.net;
     let transport = sliced.transport;
     let payload = ending.payload;
     let number = ending.number;
@@ -191,7 +192,7 @@ pub fn accepted_packet(sliced: SlicedPacket, ending: Ending) -> Packet
         link: link_head(link),
         count: sliced.count,
         tags: spans(tags),
-        net: net_of(net),
+        net,
         transport: transport_head(transport),
         payload: Span {
             at: payload.at,
@@ -213,7 +214,7 @@ fn partless(status: usize, refusal: Row) -> Packet
         link: no_head(),
         count: 0,
         tags: [none; TAG_LIMIT],
-        net: net_of(NetPart::Nothing),
+        net: no_net(),
         transport: no_head(),
         payload: none,
         number: 0,

@@ -9,9 +9,6 @@ link-head-requires c κs = search needs
 spans-requires : tie.Need-spans-requires
 spans-requires c κs = search needs
 
-net-of-requires : tie.Need-net-of-requires
-net-of-requires c κs = search needs
-
 transport-head-requires : tie.Need-transport-head-requires
 transport-head-requires c κs = search needs
 
@@ -25,7 +22,7 @@ no-row-requires : tie.Need-no-row-requires
 no-row-requires c κs = search needs
 
 returns : tie.Need-returns
-returns c = rw (c .before .before .before .before .before .before .link-head .ensures, c .before .before .before .before .before .spans .ensures, c .before .before .before .before .net-of .ensures, c .before .before .before .transport-head .ensures, c .before .before .number-of .ensures, c .before .number .ensures, c .no-row .ensures)
+returns c = rw (c .before .before .before .before .before .link-head .ensures, c .before .before .before .before .spans .ensures, c .before .before .before .transport-head .ensures, c .before .before .number-of .ensures, c .before .number .ensures, c .no-row .ensures)
 
 pub accepted-packet-spec : {M : Type 1} → statement M
 accepted-packet-spec =
@@ -33,7 +30,6 @@ accepted-packet-spec =
     (tie.spec
     link-head-requires
     spans-requires
-    net-of-requires
     transport-head-requires
     number-of-requires
     number-requires

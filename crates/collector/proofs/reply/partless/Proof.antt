@@ -8,15 +8,15 @@ use Rattle.collector.proofs.reply.partless.Tie as tie
 no-head-requires : tie.Need-no-head-requires
 no-head-requires c κs = search needs
 
-net-of-requires : tie.Need-net-of-requires
-net-of-requires c κs = search needs
+no-net-requires : tie.Need-no-net-requires
+no-net-requires c κs = search needs
 
 no-head-requires-2 : tie.Need-no-head-requires-2
 no-head-requires-2 c κs = search needs
 
 returns : tie.Need-returns
 unfolding slots
-returns c = rw (c .before .before .no-head .ensures, c .before .net-of .ensures, c .no-head2 .ensures) refl
+returns c = rw (c .before .before .no-head .ensures, c .before .no-net .ensures, c .no-head2 .ensures) refl
 
 pub partless-spec : {M : Type 1} → statement M
-partless-spec = tie.close (tie.spec no-head-requires net-of-requires no-head-requires-2 returns)
+partless-spec = tie.close (tie.spec no-head-requires no-net-requires no-head-requires-2 returns)
