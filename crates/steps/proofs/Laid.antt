@@ -1,38 +1,18 @@
--- The loop that lays the headers of a frame out as numbers, one header a turn. Assumes nothing.
-use Prim.Native.Nat.{ℕ, suc, _+_, _-_, _*_, _/_, _≤_, _<_}
+-- The headers laid out as numbers: one header more, and the first that was laid out. Assumes nothing.
+use Prim.Native.Nat.{ℕ, zero, suc, _+_, _-_, _*_, _≤_, _<_}
 use mathlib.Core.Path.{_≡_, refl, sym, ap, _∙_}
-use mathlib.Core.List.{List, [], _∷_, _++_, map, map-append, append-nil}
-use mathlib.Core.Bool.{Bool, true, false}
+use mathlib.Core.List.{List, [], _∷_, _++_}
 use native.Mathlib.Omega.{arith}
-use lib.ListN.{length, set, drop, length-append, length-drop, drop-of-length-le, length-map}
-use lib.Seq.{append-snoc, drop-append-le}
+use lib.ListN.{length, getD, set, drop, length-append, length-drop, drop-of-length-le}
+use lib.Seq.{drop-append-le}
 use lib.Dec.{eqb}
-use Rattle.rules.specs.declared.entry.Entry.{Entry as Given}
-use Rattle.rules.specs.declared.entry.Entry.the-variants as E
 use Rattle.rules.specs.declared.kind.Kind.{Kind}
-use Rattle.rules.specs.declared.kind.Kind.the-variants.{HopByHop}
-use Rattle.rules.specs.declared.kind.Layer.the-variants.{Of}
-use Rattle.rules.specs.declared.kind.RoomSource.{RoomSource}
-use Rattle.rules.specs.declared.kind.RoomSource.the-variants as S
+use Rattle.rules.specs.declared.kind.Kind.the-variants.{Ethernet2, Vlan, Ipv4, Ipv6, HopByHop, Routing, Destination, Fragment, Auth, Udp, Tcp}
 use Rattle.rules.specs.declared.place.Header.{Header}
-use Rattle.rules.specs.declared.refusal.Refusal.{Refusal}
-use Rattle.rules.specs.declared.refusal.Row.{Row}
-use Rattle.rules.specs.declared.stop.Stop.{Stop}
-use Rattle.rules.specs.Paper.{kindNumber, stopNumber, refusalOnPaper}
-use Rattle.rules.specs.Numbers.{hopByHopNotAtStart}
-use Rattle.rules.specs.Test.{pick, row}
-use Rattle.rules.specs.Place.{Stopped, room, place, tagsWith, ipsWith, entryKind, start, follow, reads, read}
-use Rattle.rules.specs.Walk.{Trace, accepted, refused, unfinished, Entry, header, is, refusal, countOf, trace, slices}
-use Rattle.laws.specs.Gather.{Way, gather, gathered, listed, rest, rest-next, rest-halt, rest-wrong, gather-whole, gather-refused}
-use Rattle.laws.specs.Reads.{Ahead, goes}
-use Rattle.steps.specs.declared.step.Said.{Said}
-use Rattle.steps.specs.declared.step.Reading.{Reading as Heard}
-use Rattle.steps.specs.declared.step.Reading.the-variants as D
-use Rattle.turns.specs.declared.turn.Turn.the-variants as U
-use Rattle.turns.specs.Turns.{turnOnPaper}
-use Rattle.steps.specs.Steps.{readingOnPaper, saidBy, leftBy}
-use Rattle.steps.specs.Lists.{met, lay, laid}
-use Rattle.steps.proofs.Steps.{said, said-len}
+use Rattle.rules.specs.Paper.{kindNumber}
+use Rattle.rules.specs.Test.{pick}
+use Rattle.rules.specs.Walk.{is, no-more, nth}
+use Rattle.steps.specs.Lists.{lay, laid}
 
 -- ---- one header more
 
@@ -82,175 +62,89 @@ lay-full (j ∷ hs) h (a ∷ b ∷ []) e = refl
 lay-full (j ∷ hs) h (a ∷ []) e = refl
 lay-full (j ∷ hs) h [] e = refl
 
-length-laid : (k : ℕ) (hs : List Header) (o : List ℕ) → length (laid k hs o) ≡ length o
+pub length-laid : (k : ℕ) (hs : List Header) (o : List ℕ) → length (laid k hs o) ≡ length o
 unfolding laid
 length-laid k hs o = length-lay (drop k hs) o
 
-laid-none : (k : ℕ) (o : List ℕ) → laid k [] o ≡ o
+pub laid-none : (k : ℕ) (o : List ℕ) → laid k [] o ≡ o
 unfolding laid lay
 laid-none k o = ap (λ (hs : List Header). lay hs o) (drop-of-length-le [] {i = k} (omega arith))
 
 module _ (k : ℕ) (hs : List Header) (h : Header) (o : List ℕ) where
-  laid-more : k ≤ length hs → 3 * (length hs - k) + 3 ≤ length o → laid k (hs ++ (h ∷ [])) o ≡ stores (laid k hs o) (3 * (length hs - k)) h
+  pub laid-more : k ≤ length hs → 3 * (length hs - k) + 3 ≤ length o → laid k (hs ++ (h ∷ [])) o ≡ stores (laid k hs o) (3 * (length hs - k)) h
   unfolding laid
   laid-more e f =
       ap (λ (l : List Header). lay l o) (drop-append-le k hs (h ∷ []) e)
       ∙ lay-more (drop k hs) h o (rw (length-drop k hs) f)
       ∙ ap (λ (n : ℕ). stores (lay (drop k hs) o) (3 * n) h) (length-drop k hs)
 
-  laid-full : k ≤ length hs → length o < 3 * (length hs - k) + 3 → laid k (hs ++ (h ∷ [])) o ≡ laid k hs o
+  pub laid-full : k ≤ length hs → length o < 3 * (length hs - k) + 3 → laid k (hs ++ (h ∷ [])) o ≡ laid k hs o
   unfolding laid
   laid-full e f = ap (λ (l : List Header). lay l o) (drop-append-le k hs (h ∷ []) e) ∙ lay-full (drop k hs) h o (rw (length-drop k hs) f)
 
-  laid-early : length hs < k → laid k (hs ++ (h ∷ [])) o ≡ laid k hs o
+  pub laid-early : length hs < k → laid k (hs ++ (h ∷ [])) o ≡ laid k hs o
   unfolding laid
   laid-early e =
       let z = length-append hs (h ∷ []) in
       ap (λ (l : List Header). lay l o) (drop-of-length-le (hs ++ (h ∷ [])) {i = k} (omega arith) ∙ sym (drop-of-length-le hs {i = k} (omega arith)))
 
--- ---- the walk itself, gathered header by header
+-- ---- a kind by its number
 
-abbrev pub walkWay : Way (List Entry) (Trace Entry)
-walkWay = record { put = λ l e. l ++ (e ∷ []); done = λ l x. accepted l x; bad = λ l r. refused l r; never = unfinished }
+abbrev numbered : ℕ → Kind
+numbered n =
+    pick (eqb n 1) Ethernet2
+    (pick (eqb n 2) Vlan
+    (pick (eqb n 3) Ipv4
+    (pick (eqb n 4) Ipv6
+    (pick (eqb n 5) HopByHop
+    (pick (eqb n 6) Routing
+    (pick (eqb n 7) Destination
+    (pick (eqb n 8) Fragment
+    (pick (eqb n 9) Auth
+    (pick (eqb n 10) Udp Tcp)))))))))
 
-listed-all : (l hs : List Entry) → listed walkWay l hs ≡ l ++ hs
-unfolding listed
-listed-all l [] = sym (append-nil l)
-listed-all l (e ∷ es) = listed-all (l ++ (e ∷ [])) es ∙ append-snoc l e es
+numbered-by : (j : Kind) → numbered (kindNumber j) ≡ j
+numbered-by Ethernet2 = refl
+numbered-by Vlan = refl
+numbered-by Ipv4 = refl
+numbered-by Ipv6 = refl
+numbered-by HopByHop = refl
+numbered-by Routing = refl
+numbered-by Destination = refl
+numbered-by Fragment = refl
+numbered-by Auth = refl
+numbered-by Udp = refl
+numbered-by Tcp = refl
 
-gathered-all : (t : Trace Entry) → gathered walkWay [] t ≡ t
-unfolding gathered
-gathered-all (accepted hs x) = ap (λ (l : List Entry). accepted l x) (listed-all [] hs)
-gathered-all (refused hs r) = ap (λ (l : List Entry). refused l r) (listed-all [] hs)
-gathered-all unfinished = refl
+-- no two kinds have one number
+pub one-kind : (i : Kind) {n : ℕ} → n ≡ kindNumber i → (j : Kind) → n ≡ kindNumber j → i ≡ j
+one-kind i e j f = sym (numbered-by i) ∙ ap numbered (sym e ∙ f) ∙ numbered-by j
 
-slices-gathered : (kind : Kind) (s : List ℕ) → slices kind s ≡ gather walkWay [] s (start kind s)
-unfolding slices gather
-slices-gathered kind s = sym (gathered-all (trace s (start kind s)))
+-- the kind whose number is none of the others'
+pub last-kind : {n : ℕ} → (n ≡ 1 → ⊥) → (n ≡ 2 → ⊥) → (n ≡ 3 → ⊥) → (n ≡ 4 → ⊥) → (n ≡ 5 → ⊥) → (n ≡ 6 → ⊥) → (n ≡ 7 → ⊥) → (n ≡ 8 → ⊥) → (n ≡ 9 → ⊥) → (n ≡ 10 → ⊥) → (j : Kind) → n ≡ kindNumber j → Tcp ≡ j
+last-kind e1 e2 e3 e4 e5 e6 e7 e8 e9 e10 Ethernet2 e = absurd (e1 e)
+last-kind e1 e2 e3 e4 e5 e6 e7 e8 e9 e10 Vlan e = absurd (e2 e)
+last-kind e1 e2 e3 e4 e5 e6 e7 e8 e9 e10 Ipv4 e = absurd (e3 e)
+last-kind e1 e2 e3 e4 e5 e6 e7 e8 e9 e10 Ipv6 e = absurd (e4 e)
+last-kind e1 e2 e3 e4 e5 e6 e7 e8 e9 e10 HopByHop e = absurd (e5 e)
+last-kind e1 e2 e3 e4 e5 e6 e7 e8 e9 e10 Routing e = absurd (e6 e)
+last-kind e1 e2 e3 e4 e5 e6 e7 e8 e9 e10 Destination e = absurd (e7 e)
+last-kind e1 e2 e3 e4 e5 e6 e7 e8 e9 e10 Fragment e = absurd (e8 e)
+last-kind e1 e2 e3 e4 e5 e6 e7 e8 e9 e10 Auth e = absurd (e9 e)
+last-kind e1 e2 e3 e4 e5 e6 e7 e8 e9 e10 Udp e = absurd (e10 e)
+last-kind e1 e2 e3 e4 e5 e6 e7 e8 e9 e10 Tcp e = refl
 
--- ---- the loop
+-- ---- header k
 
--- the loop stands before a header of a kind at an offset in a room, with the headers before it counted and laid out
-pub record Laying (s : List ℕ) (k : ℕ) (walk : Trace Entry) (o : List ℕ) (kind : Kind) (at end tags version : ℕ) (source : RoomSource) (mark : Bool) (count : ℕ) (out : List ℕ) : Type 0 where
-  pub inside : at ≤ end
-  pub room-in : end ≤ length s
-  pub few : count ≤ at
-  pub fewer : tags ≤ at
-  pub ips : ℕ
-  pub before : List Entry
-  pub counted : count ≡ length before
-  pub stored : out ≡ laid k (map header before) o
-  pub left : walk ≡ gather walkWay before s (place kind at (room end tags version ips source mark))
+-- with room for one header, header k is what was laid out
+pub one-laid : (k : ℕ) (hs : List Header) {o : List ℕ} {kind : Kind} → o ≡ laid k hs (0 ∷ 0 ∷ 0 ∷ []) → k < length hs → ((j : Kind) → getD o 0 0 ≡ kindNumber j → kind ≡ j)
+    → is (record { at = getD o 1 0; len = getD o 2 0; kind = kind }) ≡ nth hs k
+unfolding laid lay
+one-laid k [] e l f = absurd (omega arith)
+one-laid zero (h ∷ hs) {o = o} {kind = kind} e l f = ap is (rw (f (h .kind) (ap (λ (r : List ℕ). getD r 0 0) e), e) refl)
+one-laid (suc k) (h ∷ hs) e l f = one-laid k hs e (omega arith) f
 
-pub laying-first : (s : List ℕ) (k : ℕ) (o : List ℕ) (entry : Given) {kind : Kind} → kind ≡ entryKind entry
-    → Laying s k (slices kind s) o kind 0 (length s) 0 0 S.Slice false 0 o
-unfolding start
-laying-first s k o E.Ethernet e = rw e (record { inside = omega arith; room-in = omega arith; few = omega arith; fewer = omega arith; ips = 0; before = []; counted = refl; stored = sym (laid-none k o); left = slices-gathered _ s })
-laying-first s k o E.Ipv4 e = rw e (record { inside = omega arith; room-in = omega arith; few = omega arith; fewer = omega arith; ips = 1; before = []; counted = refl; stored = sym (laid-none k o); left = slices-gathered _ s })
-laying-first s k o E.Ipv6 e = rw e (record { inside = omega arith; room-in = omega arith; few = omega arith; fewer = omega arith; ips = 1; before = []; counted = refl; stored = sym (laid-none k o); left = slices-gathered _ s })
-
--- the answers at the walk's end
-accepted-laid : (k : ℕ) (o : List ℕ) {n : ℕ} {walk : Trace Entry} {out : List ℕ} {hs : List Entry} {x : Stopped} → walk ≡ accepted hs x → n ≡ length hs → out ≡ laid k (map header hs) o → (is n ≡ countOf walk) × (out ≡ laid k (met walk) o)
-unfolding countOf met
-accepted-laid k o e n l = rw e (ap is n, l)
-
-refused-laid : (k : ℕ) (o : List ℕ) {walk : Trace Entry} {out : List ℕ} {hs : List Entry} {r : Row} → walk ≡ refused hs r → out ≡ laid k (map header hs) o → (refusal r ≡ countOf walk) × (out ≡ laid k (met walk) o)
-unfolding countOf met
-refused-laid k o e l = rw e (refl, l)
-
-module _ {s : List ℕ} {k : ℕ} {walk : Trace Entry} {o : List ℕ} {kind : Kind} {at end tags version : ℕ} {source : RoomSource} {mark : Bool} {count : ℕ} {out : List ℕ} (g : Laying s k walk o kind at end tags version source mark count out) where
-  pub laying-long : length out ≡ length o
-  laying-long = ap length (g .stored) ∙ length-laid k (map header (g .before)) o
-
-  -- the numbers with the header here laid out too
-  abbrev pub withHere : ℕ → List ℕ
-  withHere len = laid k (map header (g .before) ++ (record { at = at; len = len; kind = kind } ∷ [])) o
-
-  counted-headers : count ≡ length (map header (g .before))
-  counted-headers = g .counted ∙ sym (length-map (g .before) header)
-
-  pub here-stored : (len : ℕ) {n : ℕ} {out′ : List ℕ} → k ≤ count → count - k < length o / 3 → n ≡ kindNumber kind
-      → out′ ≡ set (set (set out (3 * (count - k)) n) (3 * (count - k) + 1) at) (3 * (count - k) + 2) len → out′ ≡ withHere len
-  here-stored len a b c e =
-      let z = counted-headers in
-      e ∙ rw (c, g .stored, z) (sym (laid-more k (map header (g .before)) (record { at = at; len = len; kind = kind }) o (omega arith) (omega arith)))
-
-  pub here-full : (len : ℕ) {out′ : List ℕ} → k ≤ count → length o / 3 ≤ count - k → out′ ≡ out → out′ ≡ withHere len
-  here-full len a b e = let z = counted-headers in e ∙ g .stored ∙ sym (laid-full k (map header (g .before)) (record { at = at; len = len; kind = kind }) o (omega arith) (omega arith))
-
-  pub here-early : (len : ℕ) {out′ : List ℕ} → count < k → out′ ≡ out → out′ ≡ withHere len
-  here-early len a e = let z = counted-headers in e ∙ g .stored ∙ sym (laid-early k (map header (g .before)) (record { at = at; len = len; kind = kind }) o (omega arith))
-
-  module _ {d : Heard} (e : (ips : ℕ) → readingOnPaper d tags ips at ≡ read s (place kind at (room end tags version ips source mark))) where
-    pub laying-refused : {r : Refusal} → d ≡ D.Refused r → (refusal (refusalOnPaper r) ≡ countOf walk) × (out ≡ laid k (met walk) o)
-    laying-refused de = refused-laid k o (g .left ∙ gather-refused walkWay (g .before) s _ (sym (e (g .ips)) ∙ ap (λ (y : Heard). readingOnPaper y tags (g .ips) at) de)) (g .stored)
-
-    module _ {x : Said} (de : d ≡ D.Whole x) where
-      reads-x : read s (place kind at (room end tags version (g .ips) source mark)) ≡ reads (saidBy x tags (g .ips) at)
-      reads-x = said s _ (e (g .ips)) de
-
-      pub laying-len : (4 ≤ x .len) × (x .len ≤ end - at)
-      laying-len = said-len s (place kind at (room end tags version (g .ips) source mark)) (e (g .ips)) de
-
-      abbrev here : Entry
-      here = record { kind = kind; at = at; len = x .len; room = leftBy x tags (g .ips) }
-
-      abbrev with-here : List Entry
-      with-here = g .before ++ (here ∷ [])
-
-      behind : walk ≡ rest walkWay with-here s (follow (turnOnPaper (x .turn)) (leftBy x tags (g .ips)) (at + x .len) (x .number) (x .to))
-      behind = g .left ∙ gather-whole walkWay (g .before) s _ reads-x
-
-      one-more : count + 1 ≡ length with-here
-      one-more = let z = length-append (g .before) (here ∷ []) in omega (arith, z, g .counted)
-
-      module _ {out′ : List ℕ} (oe : out′ ≡ withHere (x .len)) where
-        all-stored : out′ ≡ laid k (map header with-here) o
-        all-stored = oe ∙ ap (λ (hs : List Header). laid k hs o) (sym (map-append header (g .before) (here ∷ [])))
-
-        pub laying-long′ : length out′ ≡ length o
-        laying-long′ = ap length all-stored ∙ length-laid k (map header with-here) o
-
-        pub laying-halt : (stop : Stop) → x .turn ≡ U.Stops stop → (is (count + 1) ≡ countOf walk) × (out′ ≡ laid k (met walk) o)
-        unfolding follow
-        laying-halt stop t =
-            let z : walk ≡ accepted with-here (record { why = stopNumber stop; number = x .number; at = at + x .len; len = x .to - (at + x .len) }) = behind ∙ rw t (rest-halt walkWay with-here s _) in
-            accepted-laid k o z one-more all-stored
-
-        pub laying-late : x .turn ≡ U.Late → (refusal (row hopByHopNotAtStart (Of HopByHop) (at + x .len) (0 ∷ 0 ∷ 0 ∷ [])) ≡ countOf walk) × (out′ ≡ laid k (met walk) o)
-        unfolding follow
-        laying-late t =
-            let z : walk ≡ refused with-here (row hopByHopNotAtStart (Of HopByHop) (at + x .len) (0 ∷ 0 ∷ 0 ∷ [])) = behind ∙ rw t (rest-wrong walkWay with-here s _) in
-            refused-laid k o z all-stored
-
-        module _ (j : Kind) (t : x .turn ≡ U.Opens j) where
-          ahead : Ahead s (place kind at (room end tags version (g .ips) source mark)) (place j (at + x .len) (room (x .end) (tagsWith j tags) (x .version) (ipsWith j (g .ips)) (x .source) (x .mark)))
-          unfolding follow
-          ahead = goes s _ reads-x (rw t refl)
-
-          pub laying-ahead : (at + x .len ≤ x .end) × (x .end ≤ end) × (at + 4 ≤ at + x .len)
-          laying-ahead = let z = ahead in let y = z .begins in (z .room, z .inside, omega arith)
-
-          pub laying-on : {tags′ : ℕ} → tags′ ≡ tagsWith j tags → Laying s k walk o j (at + x .len) (x .end) tags′ (x .version) (x .source) (x .mark) (count + 1) out′
-          unfolding follow
-          laying-on te =
-              let z = laying-ahead in
-              rw te
-              (record {
-                inside = z .0;
-                room-in = omega (arith, g .room-in, z .1);
-                few = omega (arith, g .few, z .2);
-                fewer = tags-fewer j (g .fewer) (z .2);
-                ips = ipsWith j (g .ips);
-                before = with-here;
-                counted = one-more;
-                stored = all-stored;
-                left = behind ∙ rw t (rest-next walkWay with-here s _);
-              })
-            where
-              tags-fewer : (j : Kind) → tags ≤ at → at + 4 ≤ at + x .len → tagsWith j tags ≤ at + x .len
-              tags-fewer j a b = go (eqb (kindNumber j) 2)
-                where
-                  go : (c : Bool) → pick c (tags + 1) tags ≤ at + x .len
-                  go true = omega arith
-                  go false = omega arith
+pub past-last : (k : ℕ) {A : Type 0} (hs : List A) → length hs ≤ k → no-more ≡ nth hs k
+past-last k [] e = refl
+past-last zero (h ∷ hs) e = absurd (omega arith)
+past-last (suc k) (h ∷ hs) e = past-last k hs (omega arith)

@@ -1,59 +1,80 @@
--- The loop over the headers of a frame, and what it gathers. Assumes nothing.
-use Prim.Native.Nat.{ℕ, suc, _+_, _-_, _≤_, _<_}
+-- The loop over the headers of a frame, and what it answers. Assumes nothing.
+use Prim.Native.Nat.{ℕ, _+_, _-_, _*_, _/_, _≤_, _<_}
 use mathlib.Core.Path.{_≡_, refl, sym, ap, _∙_}
-use mathlib.Core.List.{List, [], _∷_, map}
+use mathlib.Core.List.{List, [], _∷_, _++_, map, map-append, append-nil}
 use mathlib.Core.Bool.{Bool, true, false}
 use native.Mathlib.Omega.{arith}
-use native.Mathlib.Nat.{sub-zero}
-use lib.ListN.{length}
+use lib.ListN.{length, getD, set, length-append, length-map}
+use lib.Seq.{append-snoc}
 use lib.Dec.{eqb}
-use borrow.Author.Tests.{eqb-true, eqb-false, ne-eqb}
 use Rattle.rules.specs.declared.entry.Entry.{Entry as Given}
 use Rattle.rules.specs.declared.entry.Entry.the-variants as E
 use Rattle.rules.specs.declared.kind.Kind.{Kind}
-use Rattle.rules.specs.declared.kind.Kind.the-variants.{Ipv4, Ipv6, HopByHop}
+use Rattle.rules.specs.declared.kind.Kind.the-variants.{HopByHop}
 use Rattle.rules.specs.declared.kind.Layer.the-variants.{Of}
 use Rattle.rules.specs.declared.kind.RoomSource.{RoomSource}
 use Rattle.rules.specs.declared.kind.RoomSource.the-variants as S
 use Rattle.rules.specs.declared.place.Header.{Header}
 use Rattle.rules.specs.declared.refusal.Refusal.{Refusal}
 use Rattle.rules.specs.declared.refusal.Row.{Row}
-use Rattle.rules.specs.Paper.{kindNumber, refusalOnPaper}
 use Rattle.rules.specs.declared.stop.Stop.{Stop}
+use Rattle.rules.specs.Paper.{kindNumber, stopNumber, refusalOnPaper}
 use Rattle.rules.specs.Numbers.{hopByHopNotAtStart}
 use Rattle.rules.specs.Test.{pick, row}
-use Rattle.rules.specs.Place.{room, place, tagsWith, ipsWith, entryKind, start, follow, reads, refuses, read}
-use Rattle.rules.specs.Walk.{Trace, accepted, refused, unfinished, Entry, entry, header, Answer, is, no-more, refusal, nth, headerOf, countOf, trace, slices}
-use Rattle.laws.specs.Gather.{gather, gathered, listed, rest, rest-next, rest-halt, rest-wrong, gather-whole, gather-refused}
+use Rattle.rules.specs.Place.{Stopped, room, place, tagsWith, ipsWith, entryKind, start, follow, reads, refuses, read}
+use Rattle.rules.specs.Walk.{Trace, accepted, refused, unfinished, Entry, header, is, no-more, refusal, headerOf, countOf, trace, slices}
+use Rattle.laws.specs.Gather.{Way, gather, gathered, listed, rest, rest-next, rest-halt, rest-wrong, gather-whole, gather-refused}
 use Rattle.laws.specs.Reads.{Ahead, goes}
-use Rattle.laws.specs.Walks.{finished}
-use Rattle.steps.specs.declared.list.Listed.{Listed}
 use Rattle.steps.specs.declared.step.Said.{Said}
 use Rattle.steps.specs.declared.step.Reading.{Reading as Heard}
 use Rattle.steps.specs.declared.step.Reading.the-variants as D
 use Rattle.turns.specs.declared.turn.Turn.the-variants as U
 use Rattle.turns.specs.Turns.{turnOnPaper}
 use Rattle.steps.specs.Steps.{readingOnPaper, saidBy, leftBy}
+use Rattle.steps.specs.Lists.{met, laid}
 use Rattle.steps.proofs.Steps.{said, said-len}
-use Rattle.steps.specs.Lists.{Lists, lists, refused as shut, keepOf, listWay, nothingListed}
+use Rattle.steps.proofs.Laid.{length-laid, laid-none, laid-more, laid-full, laid-early, one-laid, past-last}
+
+-- ---- the walk itself, gathered header by header
+
+abbrev pub walkWay : Way (List Entry) (Trace Entry)
+walkWay = record { put = λ l e. l ++ (e ∷ []); done = λ l x. accepted l x; bad = λ l r. refused l r; never = unfinished }
+
+listed-all : (l hs : List Entry) → listed walkWay l hs ≡ l ++ hs
+unfolding listed
+listed-all l [] = sym (append-nil l)
+listed-all l (e ∷ es) = listed-all (l ++ (e ∷ [])) es ∙ append-snoc l e es
+
+gathered-all : (t : Trace Entry) → gathered walkWay [] t ≡ t
+unfolding gathered
+gathered-all (accepted hs x) = ap (λ (l : List Entry). accepted l x) (listed-all [] hs)
+gathered-all (refused hs r) = ap (λ (l : List Entry). refused l r) (listed-all [] hs)
+gathered-all unfinished = refl
+
+slices-gathered : (kind : Kind) (s : List ℕ) → slices kind s ≡ gather walkWay [] s (start kind s)
+unfolding slices gather
+slices-gathered kind s = sym (gathered-all (trace s (start kind s)))
 
 -- ---- the loop
 
--- the loop stands before a header of a kind at an offset in a room, with what it gathered so far
-pub record Going (s : List ℕ) (k : ℕ) (before : Lists) (kind : Kind) (at end tags version : ℕ) (source : RoomSource) (mark : Bool) (l : Listed) : Type 0 where
+-- the loop stands before a header of a kind at an offset in a room, with the headers before it counted and laid out
+pub record Going (s : List ℕ) (k : ℕ) (walk : Trace Entry) (o : List ℕ) (kind : Kind) (at end tags version : ℕ) (source : RoomSource) (mark : Bool) (count : ℕ) (out : List ℕ) : Type 0 where
   pub inside : at ≤ end
   pub room-in : end ≤ length s
-  pub few : l .count ≤ at
+  pub few : count ≤ at
   pub fewer : tags ≤ at
   pub ips : ℕ
-  pub left : before ≡ gather (listWay k) l s (place kind at (room end tags version ips source mark))
+  pub before : List Entry
+  pub counted : count ≡ length before
+  pub stored : out ≡ laid k (map header before) o
+  pub left : walk ≡ gather walkWay before s (place kind at (room end tags version ips source mark))
 
-pub going-first : (s : List ℕ) (k : ℕ) (entry : Given) {kind : Kind} → kind ≡ entryKind entry
-    → Going s k (gather (listWay k) nothingListed s (start kind s)) kind 0 (length s) 0 0 S.Slice false nothingListed
+pub going-first : (s : List ℕ) (k : ℕ) (o : List ℕ) (entry : Given) {kind : Kind} → kind ≡ entryKind entry
+    → Going s k (slices kind s) o kind 0 (length s) 0 0 S.Slice false 0 o
 unfolding start
-going-first s k E.Ethernet e = rw e (record { inside = omega arith; room-in = omega arith; few = omega arith; fewer = omega arith; ips = 0; left = refl })
-going-first s k E.Ipv4 e = rw e (record { inside = omega arith; room-in = omega arith; few = omega arith; fewer = omega arith; ips = 1; left = refl })
-going-first s k E.Ipv6 e = rw e (record { inside = omega arith; room-in = omega arith; few = omega arith; fewer = omega arith; ips = 1; left = refl })
+going-first s k o E.Ethernet e = rw e (record { inside = omega arith; room-in = omega arith; few = omega arith; fewer = omega arith; ips = 0; before = []; counted = refl; stored = sym (laid-none k o); left = slices-gathered _ s })
+going-first s k o E.Ipv4 e = rw e (record { inside = omega arith; room-in = omega arith; few = omega arith; fewer = omega arith; ips = 1; before = []; counted = refl; stored = sym (laid-none k o); left = slices-gathered _ s })
+going-first s k o E.Ipv6 e = rw e (record { inside = omega arith; room-in = omega arith; few = omega arith; fewer = omega arith; ips = 1; before = []; counted = refl; stored = sym (laid-none k o); left = slices-gathered _ s })
 
 -- the place of the first header
 pub first-is : (s : List ℕ) (entry : Given) {kind : Kind} {ips : ℕ} → kind ≡ entryKind entry → ips ≡ ipsWith kind 0 → place kind 0 (room (length s) 0 0 ips S.Slice false) ≡ start (entryKind entry) s
@@ -62,139 +83,132 @@ first-is s E.Ethernet e q = rw (q, e) refl
 first-is s E.Ipv4 e q = rw (q, e) refl
 first-is s E.Ipv6 e q = rw (q, e) refl
 
-module _ {s : List ℕ} {k : ℕ} {before : Lists} {kind : Kind} {at end tags version : ℕ} {source : RoomSource} {mark : Bool} {l : Listed} (g : Going s k before kind at end tags version source mark l) where
+-- the answers at the walk's end
+accepted-laid : (k : ℕ) (o : List ℕ) {n : ℕ} {walk : Trace Entry} {out : List ℕ} {hs : List Entry} {x : Stopped} → walk ≡ accepted hs x → n ≡ length hs → out ≡ laid k (map header hs) o → (is n ≡ countOf walk) × (out ≡ laid k (met walk) o)
+unfolding countOf met
+accepted-laid k o e n l = rw e (ap is n, l)
+
+refused-laid : (k : ℕ) (o : List ℕ) {walk : Trace Entry} {out : List ℕ} {hs : List Entry} {r : Row} → walk ≡ refused hs r → out ≡ laid k (map header hs) o → (refusal r ≡ countOf walk) × (out ≡ laid k (met walk) o)
+unfolding countOf met
+refused-laid k o e l = rw e (refl, l)
+
+module _ {s : List ℕ} {k : ℕ} {walk : Trace Entry} {o : List ℕ} {kind : Kind} {at end tags version : ℕ} {source : RoomSource} {mark : Bool} {count : ℕ} {out : List ℕ} (g : Going s k walk o kind at end tags version source mark count out) where
+  pub going-long : length out ≡ length o
+  going-long = ap length (g .stored) ∙ length-laid k (map header (g .before)) o
+
+  -- the numbers with the header here laid out too
+  abbrev pub withHere : ℕ → List ℕ
+  withHere len = laid k (map header (g .before) ++ (record { at = at; len = len; kind = kind } ∷ [])) o
+
+  counted-headers : count ≡ length (map header (g .before))
+  counted-headers = g .counted ∙ sym (length-map (g .before) header)
+
+  pub here-stored : (len : ℕ) {n : ℕ} {out′ : List ℕ} → k ≤ count → count - k < length o / 3 → n ≡ kindNumber kind
+      → out′ ≡ set (set (set out (3 * (count - k)) n) (3 * (count - k) + 1) at) (3 * (count - k) + 2) len → out′ ≡ withHere len
+  here-stored len a b c e =
+      let z = counted-headers in
+      e ∙ rw (c, g .stored, z) (sym (laid-more k (map header (g .before)) (record { at = at; len = len; kind = kind }) o (omega arith) (omega arith)))
+
+  pub here-full : (len : ℕ) {out′ : List ℕ} → k ≤ count → length o / 3 ≤ count - k → out′ ≡ out → out′ ≡ withHere len
+  here-full len a b e = let z = counted-headers in e ∙ g .stored ∙ sym (laid-full k (map header (g .before)) (record { at = at; len = len; kind = kind }) o (omega arith) (omega arith))
+
+  pub here-early : (len : ℕ) {out′ : List ℕ} → count < k → out′ ≡ out → out′ ≡ withHere len
+  here-early len a e = let z = counted-headers in e ∙ g .stored ∙ sym (laid-early k (map header (g .before)) (record { at = at; len = len; kind = kind }) o (omega arith))
+
   module _ {d : Heard} (e : (ips : ℕ) → readingOnPaper d tags ips at ≡ read s (place kind at (room end tags version ips source mark))) where
-    pub going-refused : {r : Refusal} → d ≡ D.Refused r → before ≡ shut (refusalOnPaper r)
-    going-refused de = g .left ∙ gather-refused (listWay k) l s _ (sym (e (g .ips)) ∙ ap (λ (y : Heard). readingOnPaper y tags (g .ips) at) de)
+    pub going-refused : {r : Refusal} → d ≡ D.Refused r → (refusal (refusalOnPaper r) ≡ countOf walk) × (out ≡ laid k (met walk) o)
+    going-refused de = refused-laid k o (g .left ∙ gather-refused walkWay (g .before) s _ (sym (e (g .ips)) ∙ ap (λ (y : Heard). readingOnPaper y tags (g .ips) at) de)) (g .stored)
 
-  module _ {d : Heard} (e : (ips : ℕ) → readingOnPaper d tags ips at ≡ read s (place kind at (room end tags version ips source mark))) {x : Said} (de : d ≡ D.Whole x) {l′ : Listed} (le : l′ ≡ keepOf k l (record { at = at; len = x .len; kind = kind })) where
-    reads-x : read s (place kind at (room end tags version (g .ips) source mark)) ≡ reads (saidBy x tags (g .ips) at)
-    reads-x = said s _ (e (g .ips)) de
+    module _ {x : Said} (de : d ≡ D.Whole x) where
+      reads-x : read s (place kind at (room end tags version (g .ips) source mark)) ≡ reads (saidBy x tags (g .ips) at)
+      reads-x = said s _ (e (g .ips)) de
 
-    pub going-len : (4 ≤ x .len) × (x .len ≤ end - at)
-    going-len = said-len s (place kind at (room end tags version (g .ips) source mark)) (e (g .ips)) de
+      pub going-len : (4 ≤ x .len) × (x .len ≤ end - at)
+      going-len = said-len s (place kind at (room end tags version (g .ips) source mark)) (e (g .ips)) de
 
-    behind : before ≡ rest (listWay k) l′ s (follow (turnOnPaper (x .turn)) (leftBy x tags (g .ips)) (at + x .len) (x .number) (x .to))
-    behind = g .left ∙ gather-whole (listWay k) l s _ reads-x ∙ rw le refl
+      abbrev here : Entry
+      here = record { kind = kind; at = at; len = x .len; room = leftBy x tags (g .ips) }
 
-    pub going-halt : (stop : Stop) → x .turn ≡ U.Stops stop → before ≡ lists l′
-    unfolding follow
-    going-halt stop t = behind ∙ rw t (rest-halt (listWay k) l′ s _)
+      abbrev with-here : List Entry
+      with-here = g .before ++ (here ∷ [])
 
-    pub going-late : x .turn ≡ U.Late → before ≡ shut (row hopByHopNotAtStart (Of HopByHop) (at + x .len) (0 ∷ 0 ∷ 0 ∷ []))
-    unfolding follow
-    going-late t = behind ∙ rw t (rest-wrong (listWay k) l′ s _)
+      behind : walk ≡ rest walkWay with-here s (follow (turnOnPaper (x .turn)) (leftBy x tags (g .ips)) (at + x .len) (x .number) (x .to))
+      behind = g .left ∙ gather-whole walkWay (g .before) s _ reads-x
 
-    module _ (j : Kind) (t : x .turn ≡ U.Opens j) where
-      ahead : Ahead s (place kind at (room end tags version (g .ips) source mark)) (place j (at + x .len) (room (x .end) (tagsWith j tags) (x .version) (ipsWith j (g .ips)) (x .source) (x .mark)))
-      unfolding follow
-      ahead = goes s _ reads-x (rw t refl)
+      one-more : count + 1 ≡ length with-here
+      one-more = let z = length-append (g .before) (here ∷ []) in omega (arith, z, g .counted)
 
-      pub going-ahead : (at + x .len ≤ x .end) × (x .end ≤ end) × (at + 4 ≤ at + x .len)
-      going-ahead = let z = ahead in let y = z .begins in (z .room, z .inside, omega arith)
+      module _ {out′ : List ℕ} (oe : out′ ≡ withHere (x .len)) where
+        all-stored : out′ ≡ laid k (map header with-here) o
+        all-stored = oe ∙ ap (λ (hs : List Header). laid k hs o) (sym (map-append header (g .before) (here ∷ [])))
 
-      pub going-on : {tags′ : ℕ} → tags′ ≡ tagsWith j tags → Going s k before j (at + x .len) (x .end) tags′ (x .version) (x .source) (x .mark) l′
-      unfolding follow
-      going-on te =
-          let z = going-ahead in
-          rw te
-          (record {
-            inside = z .0;
-            room-in = omega (arith, g .room-in, z .1);
-            few = rw le (omega (arith, g .few, z .2));
-            fewer = one-more j (g .fewer) (z .2);
-            ips = ipsWith j (g .ips);
-            left = behind ∙ rw t (rest-next (listWay k) l′ s _);
-          })
-        where
-          one-more : (j : Kind) → tags ≤ at → at + 4 ≤ at + x .len → tagsWith j tags ≤ at + x .len
-          one-more j a b = go (eqb (kindNumber j) 2)
+        pub going-long′ : length out′ ≡ length o
+        going-long′ = ap length all-stored ∙ length-laid k (map header with-here) o
+
+        pub going-halt : (stop : Stop) → x .turn ≡ U.Stops stop → (is (count + 1) ≡ countOf walk) × (out′ ≡ laid k (met walk) o)
+        unfolding follow
+        going-halt stop t =
+            let z : walk ≡ accepted with-here (record { why = stopNumber stop; number = x .number; at = at + x .len; len = x .to - (at + x .len) }) = behind ∙ rw t (rest-halt walkWay with-here s _) in
+            accepted-laid k o z one-more all-stored
+
+        pub going-late : x .turn ≡ U.Late → (refusal (row hopByHopNotAtStart (Of HopByHop) (at + x .len) (0 ∷ 0 ∷ 0 ∷ [])) ≡ countOf walk) × (out′ ≡ laid k (met walk) o)
+        unfolding follow
+        going-late t =
+            let z : walk ≡ refused with-here (row hopByHopNotAtStart (Of HopByHop) (at + x .len) (0 ∷ 0 ∷ 0 ∷ [])) = behind ∙ rw t (rest-wrong walkWay with-here s _) in
+            refused-laid k o z all-stored
+
+        module _ (j : Kind) (t : x .turn ≡ U.Opens j) where
+          ahead : Ahead s (place kind at (room end tags version (g .ips) source mark)) (place j (at + x .len) (room (x .end) (tagsWith j tags) (x .version) (ipsWith j (g .ips)) (x .source) (x .mark)))
+          unfolding follow
+          ahead = goes s _ reads-x (rw t refl)
+
+          pub going-ahead : (at + x .len ≤ x .end) × (x .end ≤ end) × (at + 4 ≤ at + x .len)
+          going-ahead = let z = ahead in let y = z .begins in (z .room, z .inside, omega arith)
+
+          pub going-on : {tags′ : ℕ} → tags′ ≡ tagsWith j tags → Going s k walk o j (at + x .len) (x .end) tags′ (x .version) (x .source) (x .mark) (count + 1) out′
+          unfolding follow
+          going-on te =
+              let z = going-ahead in
+              rw te
+              (record {
+                inside = z .0;
+                room-in = omega (arith, g .room-in, z .1);
+                few = omega (arith, g .few, z .2);
+                fewer = tags-fewer j (g .fewer) (z .2);
+                ips = ipsWith j (g .ips);
+                before = with-here;
+                counted = one-more;
+                stored = all-stored;
+                left = behind ∙ rw t (rest-next walkWay with-here s _);
+              })
             where
-              go : (c : Bool) → pick c (tags + 1) tags ≤ at + x .len
-              go true = omega arith
-              go false = omega arith
-
--- ---- what was gathered
-
-counted : (k : ℕ) (l : Listed) (hs : List Entry) → listed (listWay k) l hs .count ≡ l .count + length hs
-unfolding listed
-counted k l [] = omega arith
-counted k l (e ∷ es) = let z = counted k (keepOf k l (header e)) es in omega arith
-
-pub count-of : (k : ℕ) (t : Trace Entry) {l : Listed} → gathered (listWay k) nothingListed t ≡ lists l → is (l .count) ≡ countOf t
-unfolding gathered countOf
-count-of k (accepted hs x) {l} e = let z : listed (listWay k) nothingListed hs ≡ l = cc in let y = counted k nothingListed hs in ap is (ap (λ (m : Listed). m .count) (sym z) ∙ omega arith)
-count-of k (refused hs r) e = cc
-count-of k unfinished e = cc
+              tags-fewer : (j : Kind) → tags ≤ at → at + 4 ≤ at + x .len → tagsWith j tags ≤ at + x .len
+              tags-fewer j a b = go (eqb (kindNumber j) 2)
+                where
+                  go : (c : Bool) → pick c (tags + 1) tags ≤ at + x .len
+                  go true = omega arith
+                  go false = omega arith
 
 -- ---- header k
 
--- a listing answers the header that it kept
-abbrev answered : Listed → Answer Header
-answered l = pick (l .met) (is (l .header)) no-more
+pub header-here : (k : ℕ) (t : Trace Entry) {o : List ℕ} {n : ℕ} {kind : Kind} → is n ≡ countOf t → o ≡ laid k (met t) (0 ∷ 0 ∷ 0 ∷ []) → k < n → ((j : Kind) → getD o 0 0 ≡ kindNumber j → kind ≡ j)
+    → is (record { at = getD o 1 0; len = getD o 2 0; kind = kind }) ≡ headerOf t k
+unfolding headerOf countOf met
+header-here k (accepted hs x) {n = n} e l h f = let z : n ≡ length hs = cc in let y = length-map hs header in one-laid k (map header hs) l (omega arith) f
+header-here k (refused hs r) e l h f = cc
+header-here k unfinished e l h f = cc
 
--- past number k nothing changes
-met : (k : ℕ) (l : Listed) (hs : List Entry) → k < l .count → (listed (listWay k) l hs .header ≡ l .header) × (listed (listWay k) l hs .met ≡ l .met)
-unfolding listed
-met k l [] h = (refl, refl)
-met k l (e ∷ es) h =
-    let q = ne-eqb (l .count) k (λ z. omega arith) in
-    let r = met k (keepOf k l (header e)) es (omega arith) in
-    (r .0 ∙ rw q refl, r .1 ∙ rw q refl)
+pub header-past : (k : ℕ) (t : Trace Entry) {n : ℕ} → is n ≡ countOf t → n ≤ k → no-more ≡ headerOf t k
+unfolding headerOf countOf
+header-past k (accepted hs x) {n = n} e h = let z : n ≡ length hs = cc in let y = length-map hs header in past-last k (map header hs) (omega arith)
+header-past k (refused hs r) e h = cc
+header-past k unfinished e h = refl
 
-nth-on : (h : Header) (hs : List Header) (n m : ℕ) → n ≡ suc m → nth (h ∷ hs) n ≡ nth hs m
-nth-on h hs n m e = rw e
-
-nth-here : (h : Header) (hs : List Header) (n : ℕ) → n ≡ 0 → nth (h ∷ hs) n ≡ is h
-nth-here h hs n e = rw e
-
-abbrev Goal : ℕ → Listed → List Entry → Type 0
-Goal k l hs = answered (listed (listWay k) l hs) ≡ nth (map header hs) (k - l .count)
-
-unmet : (k : ℕ) (l : Listed) (hs : List Entry) → l .count ≤ k → l .met ≡ false → Goal k l hs
-unfolding listed
-unmet k l [] h m = rw m refl
-unmet k l (e ∷ es) h m = go (eqb (l .count) k) refl (unmet k (keepOf k l (header e)) es)
-  where
-    go : (b : Bool) → eqb (l .count) k ≡ b → (l .count + 1 ≤ k → keepOf k l (header e) .met ≡ false → Goal k (keepOf k l (header e)) es) → Goal k l (e ∷ es)
-    go true q rec =
-        let z = eqb-true (l .count) k q in
-        let r = met k (keepOf k l (header e)) es (omega arith) in
-        rw (r .0, r .1, q) (sym (nth-here (header e) (map header es) (k - l .count) (omega arith)))
-    go false q rec =
-        let z = eqb-false (l .count) k q in
-        rec (omega arith) (rw q m) ∙ sym (nth-on (header e) (map header es) (k - l .count) (k - (l .count + 1)) (omega arith))
-
-pub header-of : (k : ℕ) (t : Trace Entry) {l : Listed} → gathered (listWay k) nothingListed t ≡ lists l → answered l ≡ headerOf t k
-unfolding gathered headerOf
-header-of k (accepted hs x) {l} e =
-    let z : listed (listWay k) nothingListed hs ≡ l = cc in
-    ap answered (sym z) ∙ unmet k nothingListed hs (omega arith) refl ∙ ap (nth (map header hs)) (sub-zero k)
-header-of k (refused hs r) e = cc
-header-of k unfinished e = cc
-
--- ---- a refused frame
-
-refusal-of : (k : ℕ) (t : Trace Entry) {q : Row} → gathered (listWay k) nothingListed t ≡ shut q → (t ≡ unfinished → ⊥) → (refusal q ≡ headerOf t k) × (refusal q ≡ countOf t)
-unfolding gathered headerOf countOf
-refusal-of k (accepted hs x) e n = (cc, cc)
-refusal-of k (refused hs r) {q} e n = let z : r ≡ q = cc in (ap refusal (sym z), ap refusal (sym z))
-refusal-of k unfinished e n = absurd (n refl)
-
--- ---- the answers of a frame
-
-module _ (k : ℕ) (kind : Kind) (s : List ℕ) {o : Lists} (e : o ≡ gather (listWay k) nothingListed s (start kind s)) where
-  pub header-is : {l : Listed} → o ≡ lists l → answered l ≡ headerOf (slices kind s) k
-  unfolding gather slices
-  header-is r = header-of k (trace s (start kind s)) (sym e ∙ r)
-
-  pub count-is : {l : Listed} → o ≡ lists l → is (l .count) ≡ countOf (slices kind s)
-  unfolding gather slices
-  count-is r = count-of k (trace s (start kind s)) (sym e ∙ r)
-
-  pub refusal-is : {q : Row} → o ≡ shut q → (refusal q ≡ headerOf (slices kind s) k) × (refusal q ≡ countOf (slices kind s))
-  unfolding gather slices
-  refusal-is r = refusal-of k (trace s (start kind s)) (sym e ∙ r) (finished s (start kind s))
+pub header-refused : (k : ℕ) (t : Trace Entry) {r : Row} → refusal r ≡ countOf t → refusal r ≡ headerOf t k
+unfolding headerOf countOf
+header-refused k (accepted hs x) e = cc
+header-refused k (refused hs q) {r = r} e = let z : r ≡ q = cc in ap refusal z
+header-refused k unfinished e = cc
 
 -- ---- the refusal of a reading that is one
 

@@ -1,27 +1,18 @@
--- Headers by number and their count, as one walk gathers them.
-use Prim.Native.Nat.{ℕ, _+_}
+-- Headers by number and their count, and the headers laid out as numbers.
+use Prim.Native.Nat.{ℕ}
 use mathlib.Core.Path.{_≡_}
 use mathlib.Core.List.{List, [], _∷_, map}
-use mathlib.Core.Bool.{true, false}
-use lib.Dec.{eqb}
 use lib.ListN.{drop}
-use Rattle.rules.specs.declared.kind.Kind.the-variants.{Ethernet2}
-use Rattle.rules.specs.declared.kind.Layer.the-variants.{Of}
 use Rattle.rules.specs.declared.place.Header.{Header}
 use Rattle.rules.specs.declared.refusal.Refusal.{Refusal}
 use Rattle.rules.specs.declared.refusal.Row.{Row}
-use Rattle.rules.specs.Test.{pick, row}
 use Rattle.rules.specs.Paper.{kindNumber, refusalOnPaper}
 use Rattle.rules.specs.Place.{refuses}
-use Rattle.rules.specs.Walk.{Trace, accepted, refused as turned, unfinished, Entry, header, Answer, is, no-more, refusal}
-use Rattle.laws.specs.Gather.{Way}
+use Rattle.rules.specs.Walk.{Trace, accepted, refused, unfinished, Entry, header, Answer, is, no-more, refusal}
 use Rattle.steps.specs.declared.list.HeaderAnswer.{HeaderAnswer}
 use Rattle.steps.specs.declared.list.HeaderAnswer.the-variants as H
 use Rattle.steps.specs.declared.list.CountAnswer.{CountAnswer}
 use Rattle.steps.specs.declared.list.CountAnswer.the-variants as C
-use Rattle.steps.specs.declared.list.Listed.{Listed}
-use Rattle.steps.specs.declared.list.ListRead.{ListRead}
-use Rattle.steps.specs.declared.list.ListRead.the-variants as L
 use Rattle.steps.specs.declared.step.Reading.{Reading as Told}
 use Rattle.steps.specs.Steps.{readingOnPaper}
 
@@ -41,7 +32,7 @@ countOnPaper (C.Refused r) = refusal (refusalOnPaper r)
 -- the headers read whole, in order, also of a refused frame
 unfoldable pub met : Trace Entry → List Header
 met (accepted hs x) = map header hs
-met (turned hs r) = map header hs
+met (refused hs r) = map header hs
 met unfinished = []
 
 -- the headers written over the numbers from their start: kind, offset and length of each, as far as there is room for all
@@ -56,26 +47,6 @@ lay (h ∷ hs) [] = []
 -- the same from header number k on
 unfoldable pub laid : ℕ → List Header → List ℕ → List ℕ
 laid k hs out = lay (drop k hs) out
-
--- ---- the walk that gathers both
-
-abbrev pub nothingListed : Listed
-nothingListed = record { count = 0; header = record { at = 0; len = 0; kind = Ethernet2 }; met = false }
-
--- one header more: it is kept if its number is k
-abbrev pub keepOf : ℕ → Listed → Header → Listed
-keepOf k l h = record { count = l .count + 1; header = pick (eqb (l .count) k) h (l .header); met = pick (eqb (l .count) k) true (l .met) }
-
-pub data Lists : Type 0 where
-  lists : Listed → Lists
-  refused : Row → Lists
-
-abbrev pub listOnPaper : ListRead → Lists
-listOnPaper (L.Whole l) = lists l
-listOnPaper (L.Refused r) = refused (refusalOnPaper r)
-
-abbrev pub listWay : ℕ → Way Listed Lists
-listWay k = record { put = λ l e. keepOf k l (header e); done = λ l x. lists l; bad = λ l r. refused r; never = refused (row 0 (Of Ethernet2) 0 []) }
 
 -- the refusal r is that of a reading which is one
 abbrev pub ReadingShut : Refusal → Told → Type 0

@@ -1,5 +1,5 @@
-// The walk header by header: header number k, the count of headers, and the step from a place to the next. It knows the
-// header readers and the turns only by what they promise. The lent bytes are read and never written.
+// The walk header by header: the headers as numbers, header number k, the count of headers, and the step from a place to the
+// next. It knows the header readers and the turns only by what they promise. The frame is read and never written.
 mod list;
 mod place;
 mod step;

@@ -1,21 +1,12 @@
-// Headers by number, and their count. The walk is finished before anything is answered: a refused frame has no headers, only
-// its refusal.
+// The headers of a frame as numbers, by number, and their count. All three are one walk, and it is finished before anything
+// is answered: a refused frame answers its refusal alone.
 ghost use mathlib.Core.Path.{_≡_};
 ghost use Prim.Native.Nat.{_+_, _<_, _^_};
-ghost use Rattle.rules.specs.Place.{tagsWith, entryKind, start};
+ghost use Rattle.rules.specs.declared.kind.Kind.{Kind as K};
+ghost use Rattle.rules.specs.Paper.{kindNumber};
+ghost use Rattle.rules.specs.Place.{tagsWith, entryKind};
 ghost use Rattle.rules.specs.Walk.{headerOf, countOf, slices};
-ghost use Rattle.laws.specs.Gather.{gather};
-ghost use Rattle.steps.specs.Lists.{
-  keepOf,
-  listWay,
-  nothingListed,
-  listOnPaper,
-  headerOnPaper,
-  countOnPaper,
-  met,
-  laid,
-  ReadingShut,
-};
+ghost use Rattle.steps.specs.Lists.{headerOnPaper, countOnPaper, met, laid, ReadingShut};
 use crate::step::Reading;
 use crate::step::read_at;
 use rules::Entry;
@@ -34,38 +25,6 @@ pub enum HeaderAnswer {
 pub enum CountAnswer {
     Is(usize),
     Refused(Refusal),
-}
-
-// How many headers were met, and the one of the number asked for, if it was met.
-pub struct Listed {
-    pub count: usize,
-    pub header: Header,
-    pub met: bool,
-}
-
-pub enum ListRead {
-    Whole(Listed),
-    Refused(Refusal),
-}
-
-fn keep(listed: Listed, k: usize, header: Header) -> Listed
-    requires { ⌜ listed .count + 1 < 2 ^ 64 ⌝ }
-    ensures { λ r. ⌜ r ≡ keepOf k listed header ⌝ }
-{
-    let count = listed.count + 1;
-    if listed.count == k {
-        return Listed {
-            count,
-            header,
-            met: true,
-        };
-    }
-    let earlier = listed.header;
-    Listed {
-        count,
-        header: earlier,
-        met: listed.met,
-    }
 }
 
 pub fn tags_with(kind: Kind, tags: usize) -> usize
@@ -97,63 +56,8 @@ pub fn reading_refusal(reading: Reading) -> Refusal
     }
 }
 
-fn walk_list(s: &[u8], entry: Entry, k: usize) -> ListRead
-    ensures { λ r. ⌜ listOnPaper r ≡ gather (listWay k) nothingListed (now (s .entry)) (start (entryKind entry) (now (s .entry))) ⌝ }
-{
-    let mut kind = entry_kind(entry);
-    let mut at: usize = 0;
-    let mut end = s.len();
-    let mut tags: usize = 0;
-    let mut version: usize = 0;
-    let mut source = RoomSource::Slice;
-    let mut mark = false;
-    let mut listed = Listed {
-        count: 0,
-        header: Header {
-            at: 0,
-            len: 0,
-            kind: Kind::Ethernet2,
-        },
-        met: false,
-    };
-    loop {
-        let reading = read_at(s, kind, at, end, tags, version, source, mark);
-        let Reading::Whole(x) = reading else {
-            return ListRead::Refused(reading_refusal(reading));
-        };
-        let past = at + x.len;
-        listed = keep(
-            listed,
-            k,
-            Header {
-                at,
-                len: x.len,
-                kind,
-            },
-        );
-        let turn = x.turn;
-        match turn {
-            Turn::Opens(next) => {
-                tags = tags_with(next, tags);
-                kind = next;
-                at = past;
-                end = x.end;
-                version = x.version;
-                source = x.source;
-                mark = x.mark;
-            }
-            Turn::Stops(_) => {
-                return ListRead::Whole(listed);
-            }
-            Turn::Late => {
-                return ListRead::Refused(Refusal::HopByHopNotAtStart { offset: past });
-            }
-        }
-    }
-}
-
 // The headers of a frame from number k on, three numbers each (kind, offset, length), as many as the lent numbers have
-// room for; the answer is how many headers the frame has.
+// room for; the answer is how many headers the frame has. Of a refused frame the headers before the refusal are written too.
 pub fn headers(s: &[u8], entry: Entry, k: usize, out: &mut [usize]) -> CountAnswer
     ensures answer { λ r. ⌜ countOnPaper r ≡ countOf (slices (entryKind entry) (now (s .entry))) ⌝ }
     ensures listed { λ r. ⌜ now (out .exit) ≡ laid k (met (slices (entryKind entry) (now (s .entry)))) (now (out .entry)) ⌝ }
@@ -207,21 +111,44 @@ pub fn headers(s: &[u8], entry: Entry, k: usize, out: &mut [usize]) -> CountAnsw
     }
 }
 
+// The kind that a header laid out has for its number.
+fn kind_by(number: usize) -> Kind
+    ensures { λ r. ⌜ ((kind : K) → number ≡ kindNumber kind → r ≡ kind) ⌝ }
+{
+    match number {
+        1 => Kind::Ethernet2,
+        2 => Kind::Vlan,
+        3 => Kind::Ipv4,
+        4 => Kind::Ipv6,
+        5 => Kind::HopByHop,
+        6 => Kind::Routing,
+        7 => Kind::Destination,
+        8 => Kind::Fragment,
+        9 => Kind::Auth,
+        10 => Kind::Udp,
+        _ => Kind::Tcp,
+    }
+}
+
 // Header number k of a frame.
 pub fn header(s: &[u8], entry: Entry, k: usize) -> HeaderAnswer
     ensures answer { λ r. ⌜ headerOnPaper r ≡ headerOf (slices (entryKind entry) (now (s .entry))) k ⌝ }
     ensures unwritten { λ r. ⌜ now (s .exit) ≡ now (s .entry) ⌝ }
 {
-    let list = walk_list(s, entry, k);
-    match list {
-        ListRead::Whole(listed) => {
-            let found = listed.header;
-            if listed.met {
-                return HeaderAnswer::Is(found);
+    let mut one: [usize; 3] = [0; 3];
+    let counted = headers(s, entry, k, &mut one);
+    match counted {
+        CountAnswer::Is(count) => {
+            if k < count {
+                let number = one[0];
+                let at = one[1];
+                let len = one[2];
+                let kind = kind_by(number);
+                return HeaderAnswer::Is(Header { at, len, kind });
             }
             HeaderAnswer::NoMore
         }
-        ListRead::Refused(refusal) => HeaderAnswer::Refused(refusal),
+        CountAnswer::Refused(refusal) => HeaderAnswer::Refused(refusal),
     }
 }
 
@@ -230,9 +157,6 @@ pub fn count(s: &[u8], entry: Entry) -> CountAnswer
     ensures answer { λ r. ⌜ countOnPaper r ≡ countOf (slices (entryKind entry) (now (s .entry))) ⌝ }
     ensures unwritten { λ r. ⌜ now (s .exit) ≡ now (s .entry) ⌝ }
 {
-    let list = walk_list(s, entry, 0);
-    match list {
-        ListRead::Whole(listed) => CountAnswer::Is(listed.count),
-        ListRead::Refused(refusal) => CountAnswer::Refused(refusal),
-    }
+    let mut none: [usize; 0] = [];
+    headers(s, entry, 0, &mut none)
 }
