@@ -58,13 +58,13 @@ fn sum_rust(s: &[u8], _: &mut [usize]) {
     black_box(sum::sum(s));
 }
 
-/// The loop alone, which is taken off every figure.
+/// The loop alone, which is taken off every count of instructions.
 pub const NOTHING: Run = nothing;
 
 pub const SLICE: &[(&str, Run)] =
-    &[("library", slice), ("rust", slice_rust), ("rust, own types", slice_own), ("wrapper", slice_wrapper)];
+    &[("library", slice), ("rust", slice_rust), ("rust types", slice_own), ("wrapper", slice_wrapper)];
 
-pub const LIST: &[(&str, Run)] = &[("library", list), ("rust", list_rust), ("rust, straight", list_straight)];
+pub const LIST: &[(&str, Run)] = &[("library", list), ("rust", list_rust), ("straight", list_straight)];
 
 pub const SUM: &[(&str, Run)] = &[("library", sum), ("rust", sum_rust)];
 

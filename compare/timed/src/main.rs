@@ -37,20 +37,19 @@ impl Between {
     }
 }
 
+/// Times in nanoseconds and, if there are counts, instructions, of every side; behind each, the ratio of the first two.
 fn table(job: &Job, heads: &mut [usize], counts: &mut Option<Counts>) -> String {
-    print!("\n{:<20}", job.name);
-    let names = |unit: &str| job.sides.iter().map(|x| format!("{:>18}", format!("{} {unit}", x.0))).collect::<String>();
-    print!("{}{:>7}", names("ns"), "ratio");
-    println!("{}", counts.as_ref().map_or(String::new(), |_| names("ins") + "  ratio"));
+    let names = job.sides.iter().map(|x| format!("{:>12}", x.0)).collect::<String>() + "  ratio";
+    println!("\n{:<20}{names}{}", job.name, if counts.is_some() { names.as_str() } else { "" });
     let (mut time, mut count) = (Between::new(), Between::new());
     for frame in &job.frames {
         let ns = measure::times(job.sides, &frame.bytes, heads);
         print!("{:<20}", frame.name);
-        ns.iter().for_each(|x| print!("{x:>18.1}"));
+        ns.iter().for_each(|x| print!("{x:>12.1}"));
         print!("{:>7.2}", time.take(ns[0] / ns[1]));
         if let Some(counts) = counts {
             let n = counts.row(job.sides.len());
-            n.iter().for_each(|x| print!("{x:>18.0}"));
+            n.iter().for_each(|x| print!("{x:>12.0}"));
             print!("{:>7.2}", count.take(n[0] / n[1]));
         }
         println!();
@@ -72,6 +71,7 @@ fn main() {
         Some("count") => measure::be_counted(&jobs::jobs(), &mut heads),
         Some("time") => {
             let mut counts = words.get(1).map(|file| Counts::read(file));
+            println!("\nnanoseconds, then instructions; the loop alone is {:.1} ns of each", measure::loop_alone(&mut heads));
             let last: Vec<String> = jobs::jobs().iter().map(|job| table(job, &mut heads, &mut counts)).collect();
             println!();
             last.iter().for_each(|line| println!("{line}"));

@@ -28,25 +28,28 @@ fn median(mut v: Vec<f64>) -> f64 {
     v[v.len() / 2]
 }
 
-/// Nanoseconds a call of each side, without the loop's own: medians of rounds in which every side has its turn.
+/// Nanoseconds a call of each side: medians of rounds in which every side has its turn. The loop's own part is in them, since what a
+/// call and a loop take at once can't be told apart by subtraction.
 pub fn times(sides: &[(&str, Run)], s: &[u8], heads: &mut [usize]) -> Vec<f64> {
     let once = timed(sides[0].1, s, heads, 16).max(1.0);
     let calls = (NANOSECONDS / once).ceil() as u64;
-    let mut loops = vec![];
     let mut all = vec![vec![]; sides.len()];
     for _ in 0..ROUNDS {
-        loops.push(timed(NOTHING, s, heads, calls));
         for (i, side) in sides.iter().enumerate() {
             all[i].push(timed(side.1, s, heads, calls));
         }
     }
-    let own = median(loops);
-    all.into_iter().map(|v| median(v) - own).collect()
+    all.into_iter().map(median).collect()
 }
 
 /// A mark for the counter of instructions, which writes down how many there were so far.
 fn mark() {
     black_box(std::os::unix::process::parent_id());
+}
+
+/// Nanoseconds a turn of the loop that calls nothing.
+pub fn loop_alone(heads: &mut [usize]) -> f64 {
+    times(&[("loop", NOTHING)], &[0; 64], heads)[0]
 }
 
 /// The calls that are counted, with a mark before and behind those of each side; the loop alone first.

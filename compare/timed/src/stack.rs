@@ -4,7 +4,8 @@ use crate::jobs::Run;
 use std::mem::MaybeUninit;
 use std::ptr::{addr_of, addr_of_mut};
 
-const STRETCH: usize = 32 * 1024;
+/// Less than a page: a longer frame would be touched page by page when it is entered, and the paint with it.
+const STRETCH: usize = 3 * 1024;
 const PAINT: u8 = 0xA5;
 
 #[inline(never)]

@@ -1,4 +1,4 @@
--- How a reply that was matched by its outcome is the frame's reply.
+-- How an answer that was matched by its case is the frame's answer.
 use mathlib.Core.Path.{_≡_, refl, sym, ap, _∙_}
 use Prim.Native.Nat.{ℕ}
 use native.Mathlib.Omega.{arith}
@@ -9,14 +9,16 @@ use Rattle.rules.specs.declared.refusal.Row.{Row}
 use Rattle.rules.specs.declared.stop.Ending.{Ending}
 use Rattle.rules.specs.Paper.{refusalOnPaper}
 use Rattle.rules.specs.Place.{endingOnPaper}
-use Rattle.rules.specs.Walk.{Trace, Entry, slices}
+use Rattle.rules.specs.Walk.{Trace, Entry, Answer, slices}
 use Rattle.rules.specs.Walk as W
 use Rattle.laws.specs.Gather.{gathered}
 use Rattle.slicer.specs.declared.packet.Outcome.the-variants as O
 use Rattle.slicer.specs.declared.packet.SlicedPacket.{SlicedPacket}
 use Rattle.slicer.specs.Reply.{Reply, Ended, accepted, refused, nothing, sliceWay, refusedBy, replyOf, outcomeOnPaper, packetOnPaper}
+use Rattle.steps.specs.declared.list.CountAnswer.{CountAnswer}
+use Rattle.steps.specs.Lists.{countOnPaper}
 use Rattle.collector.specs.declared.handed.Net.{Net}
-use Rattle.collector.specs.Handed.{linkHead, netOf, transportHead, endOf, packet, packetBy, acceptedWith}
+use Rattle.collector.specs.Handed.{linkHead, netOf, transportHead, endOf, packet, packetBy, acceptedWith, countBy}
 
 pub accepted-reply : (p : SlicedPacket) (n : Net) (e : Ending) (r : Reply) → p .outcome ≡ O.Accepted e → n ≡ netOf (p .net) → packetOnPaper p ≡ r → acceptedWith p n (endingOnPaper e) ≡ packetBy r
 accepted-reply p n e r o m h = ap (λ (z : Net). acceptedWith p z (endingOnPaper e)) m ∙ ap (λ x. packet (linkHead (p .link)) (p .count) (p .tags) (netOf (p .net)) (transportHead (p .transport)) (endOf (outcomeOnPaper x))) (sym o) ∙ ap packetBy h
@@ -39,3 +41,6 @@ refused-trace W.unfinished q e = ap refusedBy (sym (ap (rowIn q) e))
 pub refused-alone : (p : SlicedPacket) (q : Refusal) (k : Kind) (s : List ℕ) → p .outcome ≡ O.Refused q → packetOnPaper p ≡ replyOf k s → refusedBy (refusalOnPaper q) ≡ replyOf k s
 unfolding replyOf
 refused-alone p q k s o h = refused-trace (slices k s) (refusalOnPaper q) (sym (ap (λ r. r .ended) h) ∙ ap outcomeOnPaper o)
+
+pub count-reply : {a b : CountAnswer} {x : Answer ℕ} → a ≡ b → countOnPaper a ≡ x → countBy (countOnPaper b) ≡ countBy x
+count-reply e h = ap countBy (ap countOnPaper (sym e) ∙ h)

@@ -19,6 +19,7 @@ use checksum::Sum16BitWords;
 use rules::Entry;
 use slicer::NetPart;
 use slicer::Outcome;
+use steps::CountAnswer;
 
 pub mod handed;
 mod reply;
@@ -102,12 +103,17 @@ pub extern "C" fn bhirkulom_count(frame: &[u8], entry: usize) -> CountReply
     ensures unwritten { λ r. ⌜ now (frame .exit) ≡ now (frame .entry) ⌝ }
 {
     let chosen = entry_by(entry);
-    match chosen {
-        Chosen::Is(known) => {
-            let counted = steps::count(frame, known);
-            reply::count_by(counted)
+    let Chosen::Is(known) = chosen else {
+        return reply::no_count();
+    };
+    let counted = steps::count(frame, known);
+    match counted {
+        CountAnswer::Is(count) => {
+            return reply::counted(count);
         }
-        Chosen::Unknown => reply::no_count(),
+        CountAnswer::Refused(refusal) => {
+            return reply::uncounted(refusal);
+        }
     }
 }
 
@@ -125,12 +131,17 @@ pub extern "C" fn bhirkulom_headers(
     ensures unwritten { λ r. ⌜ now (frame .exit) ≡ now (frame .entry) ⌝ }
 {
     let chosen = entry_by(entry);
-    match chosen {
-        Chosen::Is(known) => {
-            let counted = steps::headers(frame, known, k, heads);
-            reply::count_by(counted)
+    let Chosen::Is(known) = chosen else {
+        return reply::no_count();
+    };
+    let counted = steps::headers(frame, known, k, heads);
+    match counted {
+        CountAnswer::Is(count) => {
+            return reply::counted(count);
         }
-        Chosen::Unknown => reply::no_count(),
+        CountAnswer::Refused(refusal) => {
+            return reply::uncounted(refusal);
+        }
     }
 }
 

@@ -5,7 +5,8 @@ ghost use Rattle.rules.specs.Numbers.{tagLimit};
 ghost use Rattle.rules.specs.Paper.{refusalOnPaper};
 ghost use Rattle.rules.specs.Place.{endingOnPaper};
 ghost use Rattle.slicer.specs.Reply.{refusedBy};
-ghost use Rattle.steps.specs.Lists.{headerOnPaper, countOnPaper};
+ghost use Rattle.rules.specs.Walk.{is, refusal as refusalOf};
+ghost use Rattle.steps.specs.Lists.{headerOnPaper};
 ghost use Rattle.tcp_options.specs.Paper.{kindOnPaper, optionOnPaper};
 ghost use Rattle.collector.specs.declared.Chosen.the-variants as C;
 ghost use Rattle.collector.specs.Handed.{
@@ -48,7 +49,6 @@ use slicer::IpPart;
 use slicer::LinkPart;
 use slicer::SlicedPacket;
 use slicer::TransportPart;
-use steps::CountAnswer;
 use steps::HeaderAnswer;
 use tcp_options::OptionAnswer;
 use tcp_options::OptionKind;
@@ -260,20 +260,23 @@ pub fn header_by(answer: HeaderAnswer) -> HeaderReply
     }
 }
 
-pub fn count_by(answer: CountAnswer) -> CountReply
-    ensures { λ r. ⌜ r ≡ countBy (countOnPaper answer) ⌝ }
+pub fn counted(count: usize) -> CountReply
+    ensures { λ r. ⌜ r ≡ countBy (is count) ⌝ }
 {
-    match answer {
-        CountAnswer::Is(count) => CountReply {
-            status: THERE,
-            count,
-            refusal: no_row(),
-        },
-        CountAnswer::Refused(refusal) => CountReply {
-            status: REFUSED,
-            count: 0,
-            refusal: row_of(refusal),
-        },
+    CountReply {
+        status: THERE,
+        count,
+        refusal: no_row(),
+    }
+}
+
+pub fn uncounted(refusal: Refusal) -> CountReply
+    ensures { λ r. ⌜ r ≡ countBy (refusalOf (refusalOnPaper refusal)) ⌝ }
+{
+    CountReply {
+        status: REFUSED,
+        count: 0,
+        refusal: row_of(refusal),
     }
 }
 

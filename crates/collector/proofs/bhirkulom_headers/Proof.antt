@@ -1,6 +1,6 @@
 -- `bhirkulom_headers` meets its contract. Assumes nothing.
-use mathlib.Core.Path.{refl, ap, _∙_}
-use Rattle.collector.specs.Handed.{countBy}
+use Rattle.collector.proofs.Closed.{count-reply}
+use mathlib.Core.Path.{refl, _∙_}
 use borrow.Author.Needs.{needs}
 use Rattle.collector.proofs.bhirkulom_headers.Statement.{statement}
 use Rattle.collector.proofs.bhirkulom_headers.Tie as tie
@@ -11,26 +11,41 @@ entry-by-requires c κs = search needs
 enum-known-chosen : tie.Need-enum-known-chosen
 enum-known-chosen c = search needs
 
-headers-requires : tie.Need-headers-requires
-headers-requires c κs = search needs
-
-count-by-requires : tie.Need-count-by-requires
-count-by-requires c κs = search needs
-
 enum-told : tie.Need-enum-told
 enum-told c = search needs
 
 no-count-requires : tie.Need-no-count-requires
 no-count-requires c κs = search needs
 
+returns : tie.Need-returns
+returns c = (rw (← c .before .before .before .entry-by .ensures, c .before .enum-told .given .1) (c .no-count .ensures), (rw (← c .before .before .before .entry-by .ensures, c .before .enum-told .given .1) refl, refl))
+
+headers-requires : tie.Need-headers-requires
+headers-requires c κs = search needs
+
+enum-known-counted : tie.Need-enum-known-counted
+enum-known-counted c = search needs
+
+counted-requires : tie.Need-counted-requires
+counted-requires c κs = search needs
+
 same-length : tie.Need-same-length
 same-length c = search needs
 
-returns : tie.Need-returns
-returns c = (rw (← c .before .before .before .before .before .before .before .before .entry-by .ensures, c .before .before .before .before .before .before .chosen .given .1) (c .count-by .ensures ∙ ap countBy (c .before .before .before .headers .ensures .0)), (rw (← c .before .before .before .before .before .before .before .before .entry-by .ensures, c .before .before .before .before .before .before .chosen .given .1) (c .before .before .before .headers .ensures .1 .0), refl))
-
 returns-2 : tie.Need-returns-2
-returns-2 c = (rw (← c .before .before .before .entry-by .ensures, c .before .enum-told .given .1) (c .no-count .ensures), (rw (← c .before .before .before .entry-by .ensures, c .before .enum-told .given .1) refl, refl))
+returns-2 c = (rw (← c .before .before .before .before .before .before .before .before .before .before .before .entry-by .ensures, c .before .before .before .before .before .before .before .before .before .chosen .given .1) (c .counted2 .ensures ∙ count-reply (c .before .before .counted .given .1) (c .before .before .before .before .before .before .headers .ensures .0)), (rw (← c .before .before .before .before .before .before .before .before .before .before .before .entry-by .ensures, c .before .before .before .before .before .before .before .before .before .chosen .given .1) (c .before .before .before .before .before .before .headers .ensures .1 .0), refl))
+
+enum-known-counted-2 : tie.Need-enum-known-counted-2
+enum-known-counted-2 c = search needs
+
+uncounted-requires : tie.Need-uncounted-requires
+uncounted-requires c κs = search needs
+
+same-length-2 : tie.Need-same-length-2
+same-length-2 c = search needs
+
+returns-3 : tie.Need-returns-3
+returns-3 c = (rw (← c .before .before .before .before .before .before .before .before .before .before .before .entry-by .ensures, c .before .before .before .before .before .before .before .before .before .chosen .given .1) (c .uncounted .ensures ∙ count-reply (c .before .before .counted3 .given .1) (c .before .before .before .before .before .before .headers .ensures .0)), (rw (← c .before .before .before .before .before .before .before .before .before .before .before .entry-by .ensures, c .before .before .before .before .before .before .before .before .before .chosen .given .1) (c .before .before .before .before .before .before .headers .ensures .1 .0), refl))
 
 pub bhirkulom-headers-spec : {M : Type 1} → statement M
 bhirkulom-headers-spec =
@@ -38,10 +53,15 @@ bhirkulom-headers-spec =
     (tie.spec
     entry-by-requires
     enum-known-chosen
-    headers-requires
-    count-by-requires
     enum-told
     no-count-requires
-    same-length
     returns
-    returns-2)
+    headers-requires
+    enum-known-counted
+    counted-requires
+    same-length
+    returns-2
+    enum-known-counted-2
+    uncounted-requires
+    same-length-2
+    returns-3)
