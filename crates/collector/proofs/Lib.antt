@@ -1,3 +1,5 @@
--- Laws that the proofs here share: an array filled place by place (Filled), a reply matched by its outcome (Closed).
+-- Laws that the proofs here share: an array filled place by place (Filled), an answer matched by its case (Closed), header k out of
+-- a list and a count (Numbered).
 pub mod Filled
 pub mod Closed
+pub mod Numbered

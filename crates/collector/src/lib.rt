@@ -12,6 +12,7 @@ ghost use Rattle.collector.specs.Handed.{
   optionBy,
 };
 use crate::handed::CountReply;
+use crate::handed::Head;
 use crate::handed::HeaderReply;
 use crate::handed::OptionReply;
 use crate::handed::Packet;
@@ -76,47 +77,6 @@ pub extern "C" fn bhirkulom_slice(frame: &[u8], entry: usize) -> Packet
     }
 }
 
-// Header number k of a frame, counted from 0.
-#[no_mangle]
-pub extern "C" fn bhirkulom_header(frame: &[u8], entry: usize, k: usize) -> HeaderReply
-    ensures answer { λ r. ⌜ r ≡ headerFor (entryBy entry) (now (frame .entry)) k ⌝ }
-    ensures unwritten { λ r. ⌜ now (frame .exit) ≡ now (frame .entry) ⌝ }
-{
-    let chosen = entry_by(entry);
-    match chosen {
-        Chosen::Is(known) => {
-            let listed = steps::header(frame, known, k);
-            reply::header_by(listed)
-        }
-        Chosen::Unknown => HeaderReply {
-            status: reply::NO_SUCH_ENTRY,
-            header: reply::no_head(),
-            refusal: reply::no_row(),
-        },
-    }
-}
-
-// How many headers a frame has.
-#[no_mangle]
-pub extern "C" fn bhirkulom_count(frame: &[u8], entry: usize) -> CountReply
-    ensures answer { λ r. ⌜ r ≡ countFor (entryBy entry) (now (frame .entry)) ⌝ }
-    ensures unwritten { λ r. ⌜ now (frame .exit) ≡ now (frame .entry) ⌝ }
-{
-    let chosen = entry_by(entry);
-    let Chosen::Is(known) = chosen else {
-        return reply::no_count();
-    };
-    let counted = steps::count(frame, known);
-    match counted {
-        CountAnswer::Is(count) => {
-            return reply::counted(count);
-        }
-        CountAnswer::Refused(refusal) => {
-            return reply::uncounted(refusal);
-        }
-    }
-}
-
 // The headers of a frame from number k on, three numbers each (kind, offset, length), as many as the lent numbers have room for; the
 // answer is the count. Of a refused frame the headers before the refusal are written; the answer is its refusal.
 #[no_mangle]
@@ -143,6 +103,44 @@ pub extern "C" fn bhirkulom_headers(
             return reply::uncounted(refusal);
         }
     }
+}
+
+// Header number k of a frame, counted from 0.
+#[no_mangle]
+pub extern "C" fn bhirkulom_header(frame: &[u8], entry: usize, k: usize) -> HeaderReply
+    ensures answer { λ r. ⌜ r ≡ headerFor (entryBy entry) (now (frame .entry)) k ⌝ }
+    ensures unwritten { λ r. ⌜ now (frame .exit) ≡ now (frame .entry) ⌝ }
+{
+    let mut one: [usize; 3] = [0; 3];
+    let counted = bhirkulom_headers(frame, entry, k, &mut one);
+    let refusal = counted.refusal;
+    if k < counted.count {
+        let header = Head {
+            kind: one[0],
+            at: one[1],
+            len: one[2],
+        };
+        return HeaderReply {
+            status: reply::THERE,
+            header,
+            refusal,
+        };
+    }
+    HeaderReply {
+        status: reply::past(counted.status),
+        header: reply::no_head(),
+        refusal,
+    }
+}
+
+// How many headers a frame has.
+#[no_mangle]
+pub extern "C" fn bhirkulom_count(frame: &[u8], entry: usize) -> CountReply
+    ensures answer { λ r. ⌜ r ≡ countFor (entryBy entry) (now (frame .entry)) ⌝ }
+    ensures unwritten { λ r. ⌜ now (frame .exit) ≡ now (frame .entry) ⌝ }
+{
+    let mut none: [usize; 0] = [];
+    bhirkulom_headers(frame, entry, 0, &mut none)
 }
 
 // Option number k, counted from 0, of what follows byte 20 of a TCP header.

@@ -6,10 +6,13 @@ ghost use Rattle.rules.specs.Paper.{refusalOnPaper};
 ghost use Rattle.rules.specs.Place.{endingOnPaper};
 ghost use Rattle.slicer.specs.Reply.{refusedBy};
 ghost use Rattle.rules.specs.Walk.{is, refusal as refusalOf};
-ghost use Rattle.steps.specs.Lists.{headerOnPaper};
 ghost use Rattle.tcp_options.specs.Paper.{kindOnPaper, optionOnPaper};
 ghost use Rattle.collector.specs.declared.Chosen.the-variants as C;
+ghost use lib.Dec.{eqb};
+ghost use Rattle.rules.specs.Test.{pick};
 ghost use Rattle.collector.specs.Handed.{
+  there,
+  noMore,
   spanOf,
   headOf,
   noHead,
@@ -25,7 +28,6 @@ ghost use Rattle.collector.specs.Handed.{
   acceptedWith,
   packetBy,
   sliceFor,
-  headerBy,
   countBy,
   countFor,
   isKnown,
@@ -33,7 +35,6 @@ ghost use Rattle.collector.specs.Handed.{
 };
 use crate::handed::CountReply;
 use crate::handed::Head;
-use crate::handed::HeaderReply;
 use crate::handed::Net;
 use crate::handed::OptionReply;
 use crate::handed::Packet;
@@ -49,7 +50,6 @@ use slicer::IpPart;
 use slicer::LinkPart;
 use slicer::SlicedPacket;
 use slicer::TransportPart;
-use steps::HeaderAnswer;
 use tcp_options::OptionAnswer;
 use tcp_options::OptionKind;
 
@@ -238,26 +238,14 @@ pub fn no_packet() -> Packet
     partless(NO_SUCH_ENTRY, row)
 }
 
-pub fn header_by(answer: HeaderAnswer) -> HeaderReply
-    ensures { λ r. ⌜ r ≡ headerBy (headerOnPaper answer) ⌝ }
+// The status of a header past the last, where the count has the status given.
+pub fn past(counted: usize) -> usize
+    ensures { λ r. ⌜ r ≡ pick (eqb counted there) noMore counted ⌝ }
 {
-    match answer {
-        HeaderAnswer::Is(header) => HeaderReply {
-            status: THERE,
-            header: head_of(header),
-            refusal: no_row(),
-        },
-        HeaderAnswer::NoMore => HeaderReply {
-            status: NO_MORE,
-            header: no_head(),
-            refusal: no_row(),
-        },
-        HeaderAnswer::Refused(refusal) => HeaderReply {
-            status: REFUSED,
-            header: no_head(),
-            refusal: row_of(refusal),
-        },
+    if counted == THERE {
+        return NO_MORE;
     }
+    counted
 }
 
 pub fn counted(count: usize) -> CountReply

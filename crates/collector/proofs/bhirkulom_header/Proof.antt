@@ -1,47 +1,48 @@
 -- `bhirkulom_header` meets its contract. Assumes nothing.
-use Rattle.collector.specs.Handed.{headerBy}
-use mathlib.Core.Path.{refl, ap, _∙_}
+use mathlib.Core.Path.{refl}
+use Rattle.collector.specs.Handed.{entryBy}
+use Rattle.collector.proofs.Numbered.{header-here, header-past}
 use borrow.Author.Needs.{needs}
 use Rattle.collector.proofs.bhirkulom_header.Statement.{statement}
 use Rattle.collector.proofs.bhirkulom_header.Tie as tie
 
-entry-by-requires : tie.Need-entry-by-requires
-entry-by-requires c κs = search needs
+slice-aggregate-bhirkulom-headers : tie.Need-slice-aggregate-bhirkulom-headers
+slice-aggregate-bhirkulom-headers c = search needs
 
-enum-known-chosen : tie.Need-enum-known-chosen
-enum-known-chosen c = search needs
+bhirkulom-headers-requires : tie.Need-bhirkulom-headers-requires
+bhirkulom-headers-requires c κs = search needs
 
-header-requires : tie.Need-header-requires
-header-requires c κs = search needs
+array-read-t13 : tie.Need-array-read-t13
+array-read-t13 c = search needs
 
-header-by-requires : tie.Need-header-by-requires
-header-by-requires c κs = search needs
+array-read-t16 : tie.Need-array-read-t16
+array-read-t16 c = search needs
 
-enum-told : tie.Need-enum-told
-enum-told c = search needs
+array-read-t19 : tie.Need-array-read-t19
+array-read-t19 c = search needs
+
+returns : tie.Need-returns
+returns c = (header-here (entryBy (c .before .before .before .before .before .before .before .args .entry)) _ (c .before .before .before .before .before .before .before .args .k) (c .before .before .before .before .bhirkulom-headers .ensures .0) (c .before .before .before .before .bhirkulom-headers .ensures .1 .0) (c .if1 .taken), refl)
+
+past-requires : tie.Need-past-requires
+past-requires c κs = search needs
 
 no-head-requires : tie.Need-no-head-requires
 no-head-requires c κs = search needs
 
-no-row-requires : tie.Need-no-row-requires
-no-row-requires c κs = search needs
-
-returns : tie.Need-returns
-returns c = (rw (← c .before .before .before .before .before .entry-by .ensures, c .before .before .before .chosen .given .1) (c .header-by .ensures ∙ ap headerBy (c .before .header .ensures .0)), refl)
-
 returns-2 : tie.Need-returns-2
-returns-2 c = (rw (← c .before .before .before .before .entry-by .ensures, c .before .before .enum-told .given .1, c .before .no-head .ensures, c .no-row .ensures), refl)
+returns-2 c = (rw (c .before .past .ensures, c .no-head .ensures) (header-past (entryBy (c .before .before .before .before .before .before .before .before .before .args .entry)) _ (c .before .before .before .before .before .before .before .before .before .args .k) (c .before .before .before .before .before .before .bhirkulom-headers .ensures .0) (c .before .before .if1 .left)), refl)
 
 pub bhirkulom-header-spec : {M : Type 1} → statement M
 bhirkulom-header-spec =
     tie.close
     (tie.spec
-    entry-by-requires
-    enum-known-chosen
-    header-requires
-    header-by-requires
-    enum-told
-    no-head-requires
-    no-row-requires
+    slice-aggregate-bhirkulom-headers
+    bhirkulom-headers-requires
+    array-read-t13
+    array-read-t16
+    array-read-t19
     returns
+    past-requires
+    no-head-requires
     returns-2)
