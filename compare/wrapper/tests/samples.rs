@@ -48,6 +48,24 @@ fn by_number() {
     assert_eq!(header(Entry::Ethernet, &frame, usize::MAX), Ok(None));
 }
 
+/// IPv6 with more extensions than the list keeps without the heap.
+#[test]
+fn long_list() {
+    let mut packet = [0; 40 + 8 * 20];
+    packet[0] = 0x60;
+    packet[6] = 60;
+    for i in 0..20 {
+        packet[40 + 8 * i] = if i == 19 { 59 } else { 60 };
+    }
+    let listed: Vec<_> = headers(Entry::Ipv6, &packet).map(|h| h.unwrap()).collect();
+    assert_eq!(listed.len(), 21);
+    assert_eq!(count(Entry::Ipv6, &packet), Ok(21));
+    for (k, h) in listed.iter().enumerate() {
+        assert_eq!(header(Entry::Ipv6, &packet, k), Ok(Some(*h)));
+    }
+    assert_eq!((listed[20].kind, listed[20].offset), (Kind::Destination, 192));
+}
+
 #[test]
 fn refused() {
     let refusal = SlicedPacket::from_ethernet(&[0; 13]).unwrap_err();

@@ -10,7 +10,7 @@ use Rattle.slicer.specs.declared.packet.SlicedPacket.{SlicedPacket}
 use Rattle.steps.specs.declared.list.HeaderAnswer.{HeaderAnswer}
 use Rattle.steps.specs.declared.list.CountAnswer.{CountAnswer}
 use Rattle.slicer.specs.Reply.{packetOnPaper, replyOf}
-use Rattle.steps.specs.Lists.{headerOnPaper, countOnPaper}
+use Rattle.steps.specs.Lists.{headerOnPaper, countOnPaper, met, laid}
 
 -- r is the answer of slice(s, entry)
 abbrev pub Sliced : Entry → List ℕ → SlicedPacket → Type 0
@@ -23,3 +23,7 @@ HeaderIs entry s k r = headerOnPaper r ≡ headerOf (slices (entryKind entry) s)
 -- r is the answer of count(s, entry)
 abbrev pub CountIs : Entry → List ℕ → CountAnswer → Type 0
 CountIs entry s r = countOnPaper r ≡ countOf (slices (entryKind entry) s)
+
+-- `after` is what headers(s, entry, k, out) leaves of the numbers `before` that out held; its answer is that of count
+abbrev pub ListIs : Entry → List ℕ → ℕ → List ℕ → List ℕ → Type 0
+ListIs entry s k before after = after ≡ laid k (met (slices (entryKind entry) s)) before

@@ -15,10 +15,11 @@ use Rattle.slicer.specs.declared.packet.SlicedPacket.{SlicedPacket}
 use Rattle.steps.specs.declared.list.HeaderAnswer.{HeaderAnswer}
 use Rattle.steps.specs.declared.list.CountAnswer.{CountAnswer}
 use Rattle.slicer.specs.Reply.{nothing, sliceWay, replyOf}
+use Rattle.steps.specs.Lists.{met, laid}
 use Rattle.chain.specs.Chain.{Stands, Leads}
 use Rattle.chain.specs.Walked.{stands, next-leads}
 use Rattle.chain.specs.Agree.{AgreeAt, same-deciding}
-use Rattle.chain.specs.Answers.{Sliced, HeaderIs, CountIs}
+use Rattle.chain.specs.Answers.{Sliced, HeaderIs, CountIs, ListIs}
 use Rattle.chain.specs.Back.{settled-by, packet-back, header-back, count-back}
 
 -- q is a place that the walk of s from p comes to, refused or not
@@ -58,3 +59,6 @@ module _ (entry : Given) (s t : List ℕ) (e : length s ≡ length t) (h : (q : 
 
   pub same-count : (a b : CountAnswer) → CountIs entry s a → CountIs entry t b → a ≡ b
   same-count a b f g = settled-by count-back f (g ∙ ap countOf same-walk)
+
+  pub same-list : (k : ℕ) (before a b : List ℕ) → ListIs entry s k before a → ListIs entry t k before b → a ≡ b
+  same-list k before a b f g = f ∙ ap (λ (w : Trace Entry). laid k (met w) before) (sym same-walk) ∙ sym g

@@ -1,6 +1,6 @@
 -- "Once an IP header is accepted whose declared length is nonzero, covers that header and fits the frame, bytes past that length,
 -- changed, added or taken away, alter no answer and no refusal under the same entry": two frames that agree up to the declared end of
--- the outermost IP header get equal replies, equal answers for every header k, and equal counts, for each entry.
+-- the outermost IP header get equal replies, equal answers for every header k, equal counts and equal lists, for each entry.
 -- "Demand 3's declared length is the total length, or 40 + payload length, counted as zero when payload length is 0": of an IPv6
 -- header with payload length 0 nothing is claimed, since its room is all that follows.
 use Prim.Native.Nat.{ℕ, zero, suc}
@@ -19,7 +19,9 @@ use Rattle.steps.specs.declared.list.HeaderAnswer.{HeaderAnswer}
 use Rattle.steps.specs.declared.list.CountAnswer.{CountAnswer}
 use Rattle.slicer.specs.Reply.{replyOf, Parts, sliceWay, nothing, put}
 use Rattle.chain.specs.Twins.{Links, Declares, shown, endingIn, declared-length}
-use Rattle.chain.specs.Answers.{Sliced, HeaderIs, CountIs}
+use Rattle.rules.specs.declared.place.Header.{Header}
+use Rattle.steps.specs.Lists.{met, laid}
+use Rattle.chain.specs.Answers.{Sliced, HeaderIs, CountIs, ListIs}
 use Rattle.chain.specs.Back.{settled-by, packet-back, header-back, count-back}
 
 -- a header with no word of where its room ends: no answer tells it
@@ -73,6 +75,16 @@ count-blank (accepted hs x) = ap is (length-blank hs)
 count-blank (refused hs r) = refl
 count-blank unfinished = refl
 
+map-blank : (hs : List Entry) → map header hs ≡ map header (map blank hs)
+map-blank [] = refl
+map-blank (e ∷ hs) = ap (λ (z : List Header). header e ∷ z) (map-blank hs)
+
+met-blank : (t : Trace Entry) → met t ≡ met (shown blank t)
+unfolding met
+met-blank (accepted hs x) = map-blank hs
+met-blank (refused hs r) = map-blank hs
+met-blank unfinished = refl
+
 -- ---- the theorem: an accepted outermost IP header at p declares a length, and t has all bytes of s up to it
 
 module _ (entry : Given) (s t : List ℕ) (p : Place) (l : Links s (start (entryKind entry) s) p) (d : Declares s t p) where
@@ -94,3 +106,7 @@ module _ (entry : Given) (s t : List ℕ) (p : Place) (l : Links s (start (entry
   same-count a b e f =
       settled-by count-back e
       (f ∙ count-blank (slices (entryKind entry) t) ∙ sym (ap countOf same-walk) ∙ sym (count-blank (slices (entryKind entry) s)))
+
+  pub same-list : (k : ℕ) (before a b : List ℕ) → ListIs entry s k before a → ListIs entry t k before b → a ≡ b
+  same-list k before a b e f =
+      e ∙ ap (λ (hs : List Header). laid k hs before) (met-blank (slices (entryKind entry) s) ∙ ap met same-walk ∙ sym (met-blank (slices (entryKind entry) t))) ∙ sym f

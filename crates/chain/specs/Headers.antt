@@ -1,5 +1,5 @@
 -- "asking for header 0, 1, 2 and so on gives every header of it, once, in order, and then no more": headers-in-order, each-once;
--- "a made-up header count (it is the chain's length)": count-is-length. For each entry.
+-- "a made-up header count (it is the chain's length)": count-is-length; the headers as numbers: list-in-order. For each entry.
 use Prim.Native.Nat.{ℕ, zero, suc, _≤_, _<_, _+_, _-_}
 use mathlib.Core.Path.{_≡_, refl, sym, ap, _∙_}
 use mathlib.Core.List.{List, [], _∷_, map}
@@ -15,11 +15,11 @@ use Rattle.steps.specs.declared.list.HeaderAnswer.{HeaderAnswer}
 use Rattle.steps.specs.declared.list.HeaderAnswer.the-variants as H
 use Rattle.steps.specs.declared.list.CountAnswer.{CountAnswer}
 use Rattle.steps.specs.declared.list.CountAnswer.the-variants as C
-use Rattle.steps.specs.Lists.{headerOnPaper, countOnPaper}
+use Rattle.steps.specs.Lists.{headerOnPaper, countOnPaper, met, laid}
 use Rattle.chain.specs.Chain.{entryAt, Chain, last, more}
 use Rattle.chain.specs.Accepted.{HasChain}
 use Rattle.chain.specs.Walked.{Walked, whole-walk, broken-walk, walked, chain→slices}
-use Rattle.chain.specs.Answers.{HeaderIs, CountIs}
+use Rattle.chain.specs.Answers.{HeaderIs, CountIs, ListIs}
 
 -- e is number k of the list
 pub data At : List Entry → ℕ → Entry → Type 0 where
@@ -134,3 +134,8 @@ count-is-length entry s r q =
       is-length = λ hs x c. is-count r (counted-as entry s r c q);
       from-chain = λ n o. count→chain entry s r n q o;
     }
+
+-- what `headers` writes: the chain's headers from number k on, in order, as far as there is room
+pub list-in-order : (entry : Given) (s : List ℕ) (k : ℕ) (before after : List ℕ) (hs : List Entry) (x : Stopped) → HasChain entry s hs x → ListIs entry s k before after → after ≡ laid k (map header hs) before
+unfolding met
+list-in-order entry s k before after hs x c q = q ∙ rw (chain→slices (entryKind entry) s c)

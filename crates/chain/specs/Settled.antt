@@ -40,7 +40,7 @@ use Rattle.tcp_options.specs.declared.answer.OptionAnswer.{OptionAnswer}
 use Rattle.tcp_options.specs.Options.{options, optionOf}
 use Rattle.tcp_options.specs.Paper.{optionOnPaper}
 use Rattle.tcp_options.specs.Settled.{settled}
-use Rattle.chain.specs.Answers.{Sliced, HeaderIs, CountIs}
+use Rattle.chain.specs.Answers.{Sliced, HeaderIs, CountIs, ListIs}
 use Rattle.chain.specs.Back.{settled-by, refusal-back, link-back, ip-back, ext-back, transport-back, packet-back, header-back, count-back, step-back, turn-back}
 
 -- an answer that is said to equal a value is settled
@@ -133,6 +133,10 @@ header entry s k = settled-by header-back
 
 pub count : (entry : Entry) (s : List ℕ) {x y : CountAnswer} → CountIs entry s x → CountIs entry s y → x ≡ y
 count entry s = settled-by count-back
+
+-- its answer is count's; this is what it leaves in the lent numbers
+pub headers : (entry : Entry) (s : List ℕ) (k : ℕ) (before : List ℕ) {x y : List ℕ} → ListIs entry s k before x → ListIs entry s k before y → x ≡ y
+headers entry s k before e f = e ∙ sym f
 
 pub first : (entry : Entry) (s : List ℕ) {x y : Place} → x ≡ start (entryKind entry) s → y ≡ start (entryKind entry) s → x ≡ y
 first entry s = same-value
