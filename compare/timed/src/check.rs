@@ -1,8 +1,8 @@
 //! Both sides give the same answers: to the frames that are timed, to each of them cut at every length, and to many with a few bytes changed.
 
-use crate::boundary::{self, Packet, Row, REFUSED, THERE};
+use crate::boundary::{self, CountReply, Packet, Row};
 use crate::jobs::ROOM;
-use crate::{cursor, list, mix, same, sum, walk};
+use crate::{mix, same, sum};
 
 fn words(p: &Packet) -> Vec<usize> {
     let mut v = vec![p.status, p.link.kind, p.link.at, p.link.len, p.count];
@@ -21,15 +21,7 @@ fn row_words(r: &Row) -> [usize; 6] {
 /// The status, the count, the refusal and the numbers of the headers, of one listing.
 type Listing = (usize, usize, [usize; 6], Vec<usize>);
 
-fn listing(answer: walk::Answer<usize>, heads: &[usize]) -> Listing {
-    match answer {
-        Ok(count) => (THERE, count, [0; 6], heads[..3 * count].to_vec()),
-        Err(refusal) => (REFUSED, 0, row_words(&same::row(refusal)), vec![]),
-    }
-}
-
-fn listing_of_library(s: &[u8], heads: &mut [usize]) -> Listing {
-    let r = boundary::headers(s, 1, 0, heads);
+fn listing(r: CountReply, heads: &[usize]) -> Listing {
     (r.status, r.count, row_words(&r.refusal), heads[..3 * r.count].to_vec())
 }
 
@@ -57,9 +49,9 @@ impl Check {
     pub fn frame(&mut self, s: &[u8]) {
         self.hold("slice", s, words(&boundary::slice(s, 1)), words(&same::slice(s)));
         let mut heads = std::mem::take(&mut self.heads);
-        let library = listing_of_library(s, &mut heads);
-        let walked = listing(cursor::headers(s, &mut heads), &heads);
-        let straight = listing(list::headers(s, &mut heads), &heads);
+        let library = listing(boundary::headers(s, 1, 0, &mut heads), &heads);
+        let walked = listing(same::headers(s, &mut heads), &heads);
+        let straight = listing(same::headers_straight(s, &mut heads), &heads);
         self.heads = heads;
         self.hold("list", s, library.clone(), walked);
         self.hold("straight list", s, library, straight);

@@ -1,7 +1,7 @@
 //! What is timed: each job done by the proved library and by Rust, on frames of several kinds.
 
 use crate::mix::{self, Frame};
-use crate::{boundary, cursor, list, same, sum, walk};
+use crate::{boundary, same, sum, walk};
 use bhirkulom::SlicedPacket;
 use std::hint::black_box;
 
@@ -43,11 +43,11 @@ fn list(s: &[u8], heads: &mut [usize]) {
 }
 
 fn list_rust(s: &[u8], heads: &mut [usize]) {
-    black_box(&cursor::headers(s, heads));
+    black_box(&same::headers(s, heads));
 }
 
 fn list_straight(s: &[u8], heads: &mut [usize]) {
-    black_box(&list::headers(s, heads));
+    black_box(&same::headers_straight(s, heads));
 }
 
 fn sum(s: &[u8], _: &mut [usize]) {

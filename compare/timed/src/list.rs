@@ -21,7 +21,7 @@ impl List<'_> {
 }
 
 /// The headers of a whole Ethernet II frame, as many as there is room for, and their count.
-#[inline(never)]
+#[inline(always)]
 pub fn headers(s: &[u8], out: &mut [usize]) -> Answer<usize> {
     let mut list = List { out, to: 0, count: 0 };
     let mut number = ethernet2(s)?;

@@ -1,7 +1,8 @@
-//! The Rust walk's reply handed over as the exports hand over theirs: in the same struct.
+//! The Rust side's answers handed over as the exports hand over theirs: in the same structs.
 
-use crate::boundary::{Head, Net, Packet, Row, Span, REFUSED, THERE};
-use crate::walk::{self, Kind, Number, Refusal, Sliced};
+use crate::boundary::{CountReply, Head, Net, Packet, Row, Span, REFUSED, THERE};
+use crate::walk::{self, Answer, Kind, Number, Refusal, Sliced};
+use crate::{cursor, list};
 
 const NO_SPAN: Span = Span { at: 0, len: 0 };
 const NO_HEAD: Head = Head { kind: 0, at: 0, len: 0 };
@@ -16,7 +17,7 @@ fn span(x: walk::Span) -> Span {
     Span { at: x.at, len: x.len }
 }
 
-pub fn row(refusal: Refusal) -> Row {
+fn row(refusal: Refusal) -> Row {
     let one = |number, layer: Kind, offset, value: u8| Row { number, layer: layer as usize, offset, values: [value as usize, 0, 0] };
     match refusal {
         Refusal::TooShort { offset, required, have, layer, source } => {
@@ -71,4 +72,23 @@ pub fn slice(s: &[u8]) -> Packet {
         Ok(x) => accepted(x),
         Err(refusal) => refused(refusal),
     }
+}
+
+fn counted(answer: Answer<usize>) -> CountReply {
+    match answer {
+        Ok(count) => CountReply { status: THERE, count, refusal: NO_ROW },
+        Err(refusal) => CountReply { status: REFUSED, count: 0, refusal: row(refusal) },
+    }
+}
+
+/// The headers of a whole Ethernet II frame, by the cursor.
+#[inline(never)]
+pub fn headers(s: &[u8], heads: &mut [usize]) -> CountReply {
+    counted(cursor::headers(s, heads))
+}
+
+/// The same, written out layer by layer.
+#[inline(never)]
+pub fn headers_straight(s: &[u8], heads: &mut [usize]) -> CountReply {
+    counted(list::headers(s, heads))
 }
