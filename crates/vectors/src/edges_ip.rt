@@ -1,9 +1,8 @@
 // The tests of the IPv4 and IPv6 headers: one short, exact, one long, at both ways to each; their versions, and the bits of IPv4 fragments.
-use crate::list;
-use crate::tally::Tally;
+use case_list::Tally;
 
 fn ipv4_behind_ethernet(t: Tally) -> Tally {
-    list::run(
+    case_list::run(
         t,
         b"n IPv4 header, Ethernet
 z 12
@@ -59,7 +58,7 @@ b 14 70
 }
 
 fn ipv4_entry(t: Tally) -> Tally {
-    list::run(
+    case_list::run(
         t,
         b"n IPv4 header, IPv4 entry
 x 45000014 00000000 403b0000
@@ -110,7 +109,7 @@ b 0 70
 }
 
 fn ipv6_behind_ethernet(t: Tally) -> Tally {
-    list::run(
+    case_list::run(
         t,
         b"n IPv6 header, Ethernet
 z 12
@@ -143,7 +142,7 @@ b 19 2
 }
 
 fn ipv6_entry(t: Tally) -> Tally {
-    list::run(
+    case_list::run(
         t,
         b"n IPv6 header, IPv6 entry
 x 60000000 00003b40
@@ -173,7 +172,7 @@ b 5 2
 }
 
 fn longest_packets(t: Tally) -> Tally {
-    list::run(
+    case_list::run(
         t,
         b"n the longest IPv4 packet
 x 4500ffff 00000000 403b0000
@@ -191,7 +190,7 @@ z 32
 }
 
 fn first_bytes(t: Tally) -> Tally {
-    list::run(
+    case_list::run(
         t,
         b"n IPv4 versions
 x 45000014 00000000 403b0000

@@ -1,9 +1,8 @@
 // The length tests of the link headers, and of IP headers behind tags: a byte short, exact, a byte long.
-use crate::list;
-use crate::tally::Tally;
+use case_list::Tally;
 
 fn tags(t: Tally) -> Tally {
-    list::run(
+    case_list::run(
         t,
         b"n Ethernet header
 z 12
@@ -36,7 +35,7 @@ x 9100 0000 88a8 0000 8100 0000 8100 0000 0806
 }
 
 fn packets_behind_tags(t: Tally) -> Tally {
-    list::run(
+    case_list::run(
         t,
         b"n IPv4 behind one tag
 z 12

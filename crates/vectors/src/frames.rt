@@ -1,9 +1,8 @@
 // Document 01's frames, with the answers as it has them. Bytes that it leaves free are zero.
-use crate::list;
-use crate::tally::Tally;
+use case_list::Tally;
 
 fn link(t: Tally) -> Tally {
-    list::run(
+    case_list::run(
         t,
         b"n F1
 z 12
@@ -22,7 +21,7 @@ x 8100 0000 8100
 }
 
 fn network(t: Tally) -> Tally {
-    list::run(
+    case_list::run(
         t,
         b"n F4
 z 12
@@ -59,7 +58,7 @@ b 17 31
 
 // Document 01 names no IP version for F8 and F9: each stands here over both.
 fn transport(t: Tally) -> Tally {
-    list::run(
+    case_list::run(
         t,
         b"n F8 over IPv4
 z 12
@@ -100,7 +99,7 @@ b 66 96
 
 // F12, the 60-byte line, and the empty input.
 fn whole_texts(t: Tally) -> Tally {
-    list::run(
+    case_list::run(
         t,
         b"n F12
 z 12

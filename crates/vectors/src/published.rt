@@ -1,11 +1,10 @@
 // Published headers: of RFC 791, and of the worked examples of the header checksum in sums.rt.
-use crate::list;
-use crate::tally::Tally;
+use case_list::Tally;
 
 // RFC 791, appendix A: a datagram with 1 byte of data, one with 452, its two fragments, and one with 12 bytes of options. The appendix
 // leaves the data open; where the protocol is 6, a TCP header of 20 bytes stands there.
 fn rfc_791(t: Tally) -> Tally {
-    list::run(
+    case_list::run(
         t,
         b"n RFC 791, example 1
 x 45000015 006f0000 7b010000
@@ -35,7 +34,7 @@ x 88030088 04000001 89030000 00500050 00000000 00000000 50020000 00000000
 
 // Packets of the total length that each header has, with a header of its protocol behind it.
 fn worked_examples(t: Tally) -> Tally {
-    list::run(
+    case_list::run(
         t,
         b"n Wikipedia, the packet
 x 4500 0073 0000 4000 4011 b861 c0a8 0001 c0a8 00c7 00350035 005f0000

@@ -1,11 +1,10 @@
 // Checksums: document 01's and published ones. A case has the answer and its no-zero form.
-use crate::list;
-use crate::tally::Tally;
+use case_list::Tally;
 
 // Document 01, F10. RFC 1071, section 3: the sum ddf2, the swapped order f2dd, and the two groups f201 and f0eb, of which the second
 // begins at an odd byte; the answers are the complements.
 fn rfc_1071(t: Tally) -> Tally {
-    list::run(
+    case_list::run(
         t,
         b"n F10
 x 0001 f203 f4f5 f6f7
@@ -34,7 +33,7 @@ s 0f14 0f14",
 
 // RFC 1624, section 4: the other words of a header sum to cd7a, and a field changes from 5555 to 3285.
 fn rfc_1624(t: Tally) -> Tally {
-    list::run(
+    case_list::run(
         t,
         b"n RFC 1624
 x cd7a
@@ -54,7 +53,7 @@ s 0000 ffff",
 // checksum"; of The Geek Stuff, "How to Calculate IP Header Checksum (With an Example)"; and of B. Forouzan, "Data Communications and
 // Networking", in the section on the IPv4 header checksum.
 fn headers(t: Tally) -> Tally {
-    list::run(
+    case_list::run(
         t,
         b"n Wikipedia
 x 4500 0073 0000 4000 4011 0000 c0a8 0001 c0a8 00c7
@@ -82,7 +81,7 @@ s 0000 ffff",
 
 // Carries at the edges of the fold, and odd slices.
 fn carries(t: Tally) -> Tally {
-    list::run(
+    case_list::run(
         t,
         b"n carries
 x ffff ffff

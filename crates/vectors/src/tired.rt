@@ -1,9 +1,8 @@
 // Document 01's "Errors a tired hand makes": an input for each, whose answer the error changes.
-use crate::list;
-use crate::tally::Tally;
+use case_list::Tally;
 
 fn headers(t: Tally) -> Tally {
-    list::run(
+    case_list::run(
         t,
         b"n padding taken as samples
 z 12
@@ -28,7 +27,7 @@ z 8
 }
 
 fn extensions(t: Tally) -> Tally {
-    list::run(
+    case_list::run(
         t,
         b"n the mark cleared by a later fragment header
 z 12
@@ -60,7 +59,7 @@ x 00350035 00080000
 }
 
 fn sums(t: Tally) -> Tally {
-    list::run(
+    case_list::run(
         t,
         b"n F11, odd slices joined without padding
 x 01

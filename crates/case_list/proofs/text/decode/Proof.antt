@@ -3,8 +3,8 @@ use Prim.Native.Nat.{_-_, _≤_}
 use mathlib.Core.Path.{_≡_}
 use lib.ListN.{length}
 use borrow.Author.Needs.{needs}
-use Rattle.vectors.proofs.text.decode.Statement.{statement}
-use Rattle.vectors.proofs.text.decode.Tie as tie
+use Rattle.case_list.proofs.text.decode.Statement.{statement}
+use Rattle.case_list.proofs.text.decode.Tie as tie
 
 abbrev Inv-loop : tie.InvT-loop
 Inv-loop s out₀ from at₀ i₀ out at i = (i ≤ length s) × (length out ≡ length out₀)

@@ -3,8 +3,8 @@ use native.Mathlib.Omega.{arith}
 use mathlib.Core.Path.{sym}
 use lib.Seq.{length-take-le}
 use borrow.Author.Needs.{needs}
-use Rattle.vectors.proofs.compare.print_frame.Statement.{statement}
-use Rattle.vectors.proofs.compare.print_frame.Tie as tie
+use Rattle.case_list.proofs.compare.print_frame.Statement.{statement}
+use Rattle.case_list.proofs.compare.print_frame.Tie as tie
 
 buffer-requires : tie.Need-buffer-requires
 buffer-requires c κs = search needs

@@ -1,27 +1,24 @@
--- `text::number` meets its contract. Assumes nothing.
+-- `list::line_end` meets its contract. Assumes nothing.
 use Prim.Native.Nat.{_-_, _≤_}
 use lib.ListN.{length}
 use borrow.Author.Needs.{needs}
-use Rattle.vectors.proofs.text.number.Statement.{statement}
-use Rattle.vectors.proofs.text.number.Tie as tie
+use Rattle.case_list.proofs.list.line_end.Statement.{statement}
+use Rattle.case_list.proofs.list.line_end.Tie as tie
 
 abbrev Inv-loop : tie.InvT-loop
-Inv-loop s value₀ i₀ value i = i ≤ length s
+Inv-loop s from i₀ i = (from ≤ i) × (i ≤ length s)
 
 abbrev μ-loop : tie.MeasureT-loop
-μ-loop s value₀ i₀ value i = length s - i
+μ-loop s from i₀ i = length s - i
 
 loop-holds : tie.Need-loop-holds Inv-loop μ-loop
 loop-holds c = search needs
 
-shared-slice-read-c : tie.Need-shared-slice-read-c Inv-loop μ-loop
-shared-slice-read-c c = search needs
+shared-slice-read-if1 : tie.Need-shared-slice-read-if1 Inv-loop μ-loop
+shared-slice-read-if1 c = search needs
 
 returns : tie.Need-returns Inv-loop μ-loop
 returns c = search needs
-
-with-digit-requires : tie.Need-with-digit-requires Inv-loop μ-loop
-with-digit-requires c κs = search needs
 
 add-i : tie.Need-add-i Inv-loop μ-loop
 add-i c = search needs
@@ -35,16 +32,15 @@ loop-again c = search needs
 returns-2 : tie.Need-returns-2 Inv-loop μ-loop
 returns-2 c = search needs
 
-pub number-spec : {M : Type 1} → statement M
-number-spec =
+pub line-end-spec : {M : Type 1} → statement M
+line-end-spec =
     tie.close
     (tie.spec
     Inv-loop
     μ-loop
     loop-holds
-    shared-slice-read-c
+    shared-slice-read-if1
     returns
-    with-digit-requires
     add-i
     loop-less
     loop-again

@@ -3,8 +3,8 @@ use native.Mathlib.Omega.{arith}
 use mathlib.Core.Path.{sym}
 use lib.Seq.{length-take-le}
 use borrow.Author.Needs.{needs}
-use Rattle.vectors.proofs.list.added.Statement.{statement}
-use Rattle.vectors.proofs.list.added.Tie as tie
+use Rattle.case_list.proofs.list.added.Statement.{statement}
+use Rattle.case_list.proofs.list.added.Tie as tie
 
 faulty-requires : tie.Need-faulty-requires
 faulty-requires c κs = search needs

@@ -3,8 +3,8 @@ use Prim.Native.Nat.{_-_, _≤_}
 use mathlib.Core.Path.{_≡_}
 use lib.ListN.{length}
 use borrow.Author.Needs.{needs}
-use Rattle.vectors.proofs.list.run.Statement.{statement}
-use Rattle.vectors.proofs.list.run.Tie as tie
+use Rattle.case_list.proofs.list.run.Statement.{statement}
+use Rattle.case_list.proofs.list.run.Tie as tie
 
 abbrev Inv-loop : tie.InvT-loop
 Inv-loop list bytes₀ state₀ at₀ bytes state at = (at ≤ length list) × (65600 ≡ length bytes)

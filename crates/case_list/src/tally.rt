@@ -27,4 +27,13 @@ impl Tally {
             same: self.same,
         }
     }
+
+    // A program's last line.
+    pub fn report(self) {
+        io::write_all(1, b"\n");
+        io::print_decimal(1, self.compared);
+        io::write_all(1, b" compared, ");
+        io::print_decimal(1, self.same);
+        io::write_all(1, b" the same\n");
+    }
 }

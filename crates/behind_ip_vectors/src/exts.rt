@@ -1,9 +1,8 @@
 // The tests of the extension headers: one short, exact, one long, in rooms that a length field ends and in rooms that the slice ends.
-use crate::list;
-use crate::tally::Tally;
+use case_list::Tally;
 
 fn hop_by_hop(t: Tally) -> Tally {
-    list::run(
+    case_list::run(
         t,
         b"n hop-by-hop, room by payload length
 z 12
@@ -40,7 +39,7 @@ b 41 1
 }
 
 fn routing(t: Tally) -> Tally {
-    list::run(
+    case_list::run(
         t,
         b"n routing, room by payload length
 z 12
@@ -77,7 +76,7 @@ b 41 1
 }
 
 fn destination(t: Tally) -> Tally {
-    list::run(
+    case_list::run(
         t,
         b"n destination, room by payload length
 z 12
@@ -114,7 +113,7 @@ b 41 1
 }
 
 fn chains(t: Tally) -> Tally {
-    list::run(
+    case_list::run(
         t,
         b"n a length byte of 255
 x 60000000 00003c40
@@ -147,7 +146,7 @@ z 4
 }
 
 fn fragment(t: Tally) -> Tally {
-    list::run(
+    case_list::run(
         t,
         b"n fragment, room by payload length
 z 12
@@ -191,7 +190,7 @@ b 43 9
 }
 
 fn auth(t: Tally) -> Tally {
-    list::run(
+    case_list::run(
         t,
         b"n AUTH, room by payload length
 z 12
@@ -253,7 +252,7 @@ z 10
 }
 
 fn auth_in_ipv4(t: Tally) -> Tally {
-    list::run(
+    case_list::run(
         t,
         b"n AUTH in IPv4, Ethernet
 z 12

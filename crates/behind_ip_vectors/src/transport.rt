@@ -1,10 +1,9 @@
 // The tests of the UDP and TCP headers: one short, exact, one long, in every kind of room and at every entry.
-use crate::list;
-use crate::tally::Tally;
+use case_list::Tally;
 
 // A UDP length of 8, and then of 12.
 fn udp_in_ipv4(t: Tally) -> Tally {
-    list::run(
+    case_list::run(
         t,
         b"n UDP, room by IPv4 total length, Ethernet
 z 12
@@ -46,7 +45,7 @@ b 3 33
 
 // The same.
 fn udp_in_ipv6(t: Tally) -> Tally {
-    list::run(
+    case_list::run(
         t,
         b"n UDP, room by IPv6 payload length, Ethernet
 z 12
@@ -88,7 +87,7 @@ b 5 13
 
 // The same.
 fn udp_to_the_end(t: Tally) -> Tally {
-    list::run(
+    case_list::run(
         t,
         b"n UDP, room by the slice, Ethernet
 z 12
@@ -117,7 +116,7 @@ b 45 12
 }
 
 fn udp_lengths(t: Tally) -> Tally {
-    list::run(
+    case_list::run(
         t,
         b"n UDP length 7, 8 and 9
 x 4500001d 00000000 40110000
@@ -170,7 +169,7 @@ x 00350035 00080000
 
 // A data offset of 5, and then of 6.
 fn tcp_in_ipv4(t: Tally) -> Tally {
-    list::run(
+    case_list::run(
         t,
         b"n TCP, room by IPv4 total length, Ethernet
 z 12
@@ -212,7 +211,7 @@ b 3 45
 
 // The same.
 fn tcp_in_ipv6(t: Tally) -> Tally {
-    list::run(
+    case_list::run(
         t,
         b"n TCP, room by IPv6 payload length, Ethernet
 z 12
@@ -254,7 +253,7 @@ b 5 25
 
 // The same.
 fn tcp_to_the_end(t: Tally) -> Tally {
-    list::run(
+    case_list::run(
         t,
         b"n TCP, room by the slice, Ethernet
 z 12
@@ -283,7 +282,7 @@ b 52 96
 }
 
 fn tcp_offsets(t: Tally) -> Tally {
-    list::run(
+    case_list::run(
         t,
         b"n TCP data offset 15
 x 60000000 00000640
