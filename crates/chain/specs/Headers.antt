@@ -10,6 +10,7 @@ use Rattle.rules.specs.declared.place.Place.{Place}
 use Rattle.rules.specs.Place.{Stopped, bytes, entryKind}
 use Rattle.rules.specs.Walk.{Trace, Entry, header, is, no-more, nth, headerOf, countOf}
 use Rattle.laws.specs.Kinds.{sized}
+use Rattle.laws.specs.Walks.{nth-past}
 use Rattle.rules.specs.declared.entry.Entry.{Entry as Given}
 use Rattle.steps.specs.declared.list.HeaderAnswer.{HeaderAnswer}
 use Rattle.steps.specs.declared.list.HeaderAnswer.the-variants as H
@@ -43,11 +44,6 @@ pub record CountIsLength (entry : Given) (s : List ℕ) (r : CountAnswer) : Type
 at-nth : {hs : List Entry} {k : ℕ} {e : Entry} → At hs k e → nth (map header hs) k ≡ is (header e)
 at-nth here = refl
 at-nth (later a) = at-nth a
-
-past-end : (hs : List Entry) (k : ℕ) → length hs ≤ k → nth (map header hs) k ≡ no-more
-past-end [] k h = refl
-past-end (x ∷ hs) zero h = absurd (omega arith)
-past-end (x ∷ hs) (suc k) h = past-end hs k (omega arith)
 
 is-it : (a : HeaderAnswer) {h : Header} → headerOnPaper a ≡ is h → a ≡ H.Is h
 is-it (H.Is h) e = cc
@@ -124,7 +120,7 @@ pub headers-in-order : (entry : Given) (s : List ℕ) (k : ℕ) (r : HeaderAnswe
 headers-in-order entry s k r q =
     record {
       in-order = λ hs x e c a. is-it r (listed-as entry s k r c q ∙ at-nth a);
-      then-no-more = λ hs x c h. is-no-more r (listed-as entry s k r c q ∙ past-end hs k h);
+      then-no-more = λ hs x c h. is-no-more r (listed-as entry s k r c q ∙ nth-past hs k h);
       from-chain = λ h o. header→chain entry s k r h q o;
     }
 

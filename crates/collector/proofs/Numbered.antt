@@ -9,6 +9,7 @@ use Rattle.rules.specs.Test.{pick}
 use Rattle.rules.specs.Place.{entryKind}
 use Rattle.rules.specs.Walk.{Trace, Entry, header, nth, is, no-more, headerOf, countOf, slices}
 use Rattle.rules.specs.Walk as W
+use Rattle.laws.specs.Walks.{nth-past}
 use Rattle.steps.specs.Lists.{met, lay, laid}
 use Rattle.collector.specs.declared.Chosen.{Chosen}
 use Rattle.collector.specs.declared.Chosen.the-variants as C
@@ -29,11 +30,6 @@ laid-here [] k h = absurd (omega arith)
 laid-here (e ∷ hs) zero h = refl
 laid-here (e ∷ hs) (suc k) h = laid-here hs k (omega arith)
 
-past-last : (hs : List Entry) (k : ℕ) → length hs ≤ k → no-more ≡ nth (map header hs) k
-past-last [] k h = refl
-past-last (e ∷ hs) zero h = absurd (omega arith)
-past-last (e ∷ hs) (suc k) h = past-last hs k (omega arith)
-
 here : (t : Trace Entry) (k : ℕ) → k < countBy (countOf t) .count → headerReply there (headIn (laid k (met t) room)) (countBy (countOf t) .refusal) ≡ headerBy (headerOf t k)
 unfolding countOf headerOf met laid
 here (W.accepted hs x) k h = laid-here hs k h
@@ -42,7 +38,7 @@ here W.unfinished k h = absurd (omega arith)
 
 past : (t : Trace Entry) (k : ℕ) → countBy (countOf t) .count ≤ k → headerReply (pick (eqb (countBy (countOf t) .status) there) noMore (countBy (countOf t) .status)) noHead (countBy (countOf t) .refusal) ≡ headerBy (headerOf t k)
 unfolding countOf headerOf
-past (W.accepted hs x) k h = ap headerBy (past-last hs k h)
+past (W.accepted hs x) k h = ap headerBy (sym (nth-past hs k h))
 past (W.refused hs r) k h = refl
 past W.unfinished k h = refl
 

@@ -1,11 +1,12 @@
 -- The walk, one header at a time, with no word of its fuel.
-use Prim.Native.Nat.{ℕ, zero, suc, _<_, _-_}
+use Prim.Native.Nat.{ℕ, zero, suc, _<_, _≤_, _-_}
 use mathlib.Core.Path.{_≡_, refl, ap}
-use mathlib.Core.List.{List}
+use mathlib.Core.List.{List, [], _∷_, map}
 use native.Mathlib.Omega.{arith}
+use lib.ListN.{length}
 use Rattle.rules.specs.declared.place.Place.{Place}
 use Rattle.rules.specs.Place.{Follow, next, halt, wrong, Found, Reading, reads, refuses, read}
-use Rattle.rules.specs.Walk.{Trace, accepted, refused, unfinished, Entry, entry, behind, onwardBy, step, walk, trace}
+use Rattle.rules.specs.Walk.{Trace, accepted, refused, unfinished, Entry, entry, behind, onwardBy, step, walk, trace, header, nth, no-more}
 use Rattle.laws.specs.Reads.{goes}
 
 onward-same : (x : Follow) (f g : Place → Trace Entry) → ((q : Place) → x ≡ next q → f q ≡ g q) → onwardBy f x ≡ onwardBy g x
@@ -56,3 +57,9 @@ walk-ends (suc n) s p h e = step-ends p (read s p) (walk n s) (λ x q r w. let z
 pub finished : (s : List ℕ) (p : Place) → trace s p ≡ unfinished → ⊥
 unfolding trace
 finished s p = walk-ends (suc (p .room .end - p .at)) s p (omega arith)
+
+-- past the last header there is no more
+pub nth-past : (hs : List Entry) (k : ℕ) → length hs ≤ k → nth (map header hs) k ≡ no-more
+nth-past [] k h = refl
+nth-past (e ∷ hs) zero h = absurd (omega arith)
+nth-past (e ∷ hs) (suc k) h = nth-past hs k (omega arith)

@@ -11,7 +11,7 @@ use Rattle.rules.specs.declared.kind.Kind.the-variants.{Ethernet2, Vlan, Ipv4, 
 use Rattle.rules.specs.declared.place.Header.{Header}
 use Rattle.rules.specs.Paper.{kindNumber}
 use Rattle.rules.specs.Test.{pick}
-use Rattle.rules.specs.Walk.{is, no-more, nth}
+use Rattle.rules.specs.Walk.{is, nth}
 use Rattle.steps.specs.Lists.{lay, laid}
 
 -- ---- one header more
@@ -143,8 +143,3 @@ unfolding laid lay
 one-laid k [] e l f = absurd (omega arith)
 one-laid zero (h ∷ hs) {o = o} {kind = kind} e l f = ap is (rw (f (h .kind) (ap (λ (r : List ℕ). getD r 0 0) e), e) refl)
 one-laid (suc k) (h ∷ hs) e l f = one-laid k hs e (omega arith) f
-
-pub past-last : (k : ℕ) {A : Type 0} (hs : List A) → length hs ≤ k → no-more ≡ nth hs k
-past-last k [] e = refl
-past-last zero (h ∷ hs) e = absurd (omega arith)
-past-last (suc k) (h ∷ hs) e = past-last k hs (omega arith)

@@ -25,6 +25,7 @@ use Rattle.rules.specs.Place.{Stopped, room, place, tagsWith, ipsWith, entryKin
 use Rattle.rules.specs.Walk.{Trace, accepted, refused, unfinished, Entry, header, is, no-more, refusal, headerOf, countOf, trace, slices}
 use Rattle.laws.specs.Gather.{Way, gather, gathered, listed, rest, rest-next, rest-halt, rest-wrong, gather-whole, gather-refused}
 use Rattle.laws.specs.Reads.{Ahead, goes}
+use Rattle.laws.specs.Walks.{nth-past}
 use Rattle.steps.specs.declared.step.Said.{Said}
 use Rattle.steps.specs.declared.step.Reading.{Reading as Heard}
 use Rattle.steps.specs.declared.step.Reading.the-variants as D
@@ -33,7 +34,7 @@ use Rattle.turns.specs.Turns.{turnOnPaper}
 use Rattle.steps.specs.Steps.{readingOnPaper, saidBy, leftBy}
 use Rattle.steps.specs.Lists.{met, laid}
 use Rattle.steps.proofs.Steps.{said, said-len}
-use Rattle.steps.proofs.Laid.{length-laid, laid-none, laid-more, laid-full, laid-early, one-laid, past-last}
+use Rattle.steps.proofs.Laid.{length-laid, laid-none, laid-more, laid-full, laid-early, one-laid}
 
 -- ---- the walk itself, gathered header by header
 
@@ -200,7 +201,7 @@ header-here k unfinished e l h f = cc
 
 pub header-past : (k : ℕ) (t : Trace Entry) {n : ℕ} → is n ≡ countOf t → n ≤ k → no-more ≡ headerOf t k
 unfolding headerOf countOf
-header-past k (accepted hs x) {n = n} e h = let z : n ≡ length hs = cc in let y = length-map hs header in past-last k (map header hs) (omega arith)
+header-past k (accepted hs x) {n = n} e h = let z : n ≡ length hs = cc in sym (nth-past hs k (omega arith))
 header-past k (refused hs r) e h = cc
 header-past k unfinished e h = refl
 
