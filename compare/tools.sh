@@ -51,6 +51,7 @@ find_tools() {
 # Proves crate collector and writes the archive.
 build_archive() {
     command -v rt >/dev/null || die "the Rattle kit's command rt is not on the path"
+    mkdir -p target
     rt staticlib collector >target/staticlib.log 2>&1 || die "the archive was not built: target/staticlib.log"
 }
 
