@@ -48,11 +48,20 @@ find_tools() {
     esac
 }
 
-# Proves crate collector and writes the archive.
+# The kit's tools for this machine.
+kit_tools() { echo "$(dirname "$(dirname "$(rt doc)")")/on/$(uname -m)/toolchain/bin"; }
+
+# Proves the crates of the library and writes the archive, which holds an object of each: compiled apart, so that the walk over the headers is
+# taken in by its one caller in either.
+library='collector numbered'
 build_archive() {
     command -v rt >/dev/null || die "the Rattle kit's command rt is not on the path"
     mkdir -p target
-    rt staticlib collector >target/staticlib.log 2>&1 || die "the archive was not built: target/staticlib.log"
+    for c in $library; do
+        rt staticlib $c >target/staticlib.log 2>&1 || die "the archive was not built: target/staticlib.log"
+    done
+    tools=$(kit_tools)
+    (cd $archive && "$tools/llvm-ar" x libnumbered.a && "$tools/llvm-ar" r libcollector.a numbered.o && rm numbered.o libnumbered.a)
 }
 
 # Compiles one crate with optimisation: its kind (lib or bin), its name, its root file, what to write, then rustc's further words.
@@ -63,38 +72,39 @@ compile() {
         --check-cfg 'cfg(shown, test)' "$@" "$file" -o "$to" || die "$name doesn't compile"
 }
 
-# Writes the library for Arm to the folder given: the archive's LLVM module, kept by a compiler that passes everything on, compiled for Arm
-# at the same -O3. In the module a struct that is returned goes by x86-64's rules, in the first argument; it is marked as one, so that
-# it goes by Arm's.
+# Writes the library for Arm to the folder given: the LLVM module of each of its crates, kept by a compiler that passes everything on, compiled
+# for Arm at the same -O3. In a module a struct that is returned goes by x86-64's rules, in the first argument; it is marked as one, so
+# that it goes by Arm's.
 arm_archive() {
-    kit=$(dirname "$(dirname "$(rt doc)")")
-    own=$kit/on/$(uname -m)
+    tools=$(kit_tools)
+    kit=${tools%/on/*} own=${tools%/toolchain/bin} arm=aarch64-unknown-linux-gnu
     rm -rf "$1"
     mkdir -p "$1/tools/bin"
     to=$(cd "$1" && pwd -P)
     ln -s "$kit/toolchain/lib" "$to/tools/lib"
-    for f in "$own"/toolchain/bin/*; do ln -s "$f" "$to/tools/bin/"; done
+    for f in "$tools"/*; do ln -s "$f" "$to/tools/bin/"; done
     rm "$to/tools/bin/clang"
     cat >"$to/tools/bin/clang" <<X
 #!/bin/sh
 for a in "\$@"; do case \$a in *.bc) cp "\$a" "$to/module.bc" ;; esac; done
-exec "$own/toolchain/bin/clang" "\$@"
+exec "$tools/clang" "\$@"
 X
     chmod +x "$to/tools/bin/clang"
-    deps=''
-    for d in $(sed -n 's/^collector:\([^#]*\).*/\1/p' crates.txt); do deps="$deps --extern $d=target/rlib/$d.rlib"; done
-    # shellcheck disable=SC2086
-    rattle build --crate-name collector crates/collector/src/lib.rt --extern "std=$own/rlib/std.rlib" $deps -L dependency=target/rlib \
-        -L "dependency=$own/rlib" --antt-project "$kit/logic/antt-project.json" --logic-built "$own/logic-built" \
-        --crate-type staticlib --toolchain "$to/tools" -o "$to/x86.a" >"$to/build.log" 2>&1 || die "no module: $to/build.log"
-    arm=aarch64-unknown-linux-gnu c=$own/toolchain/bin/clang
-    "$c" --target=$TARGET -S -emit-llvm -x ir "$to/module.bc" -o "$to/module.ll" -O0 -Xclang -disable-llvm-passes
-    layout=$(echo 'int x;' | "$c" --target=$arm -S -emit-llvm -x c - -o - | grep '^target datalayout')
-    sed -e "s/^target datalayout.*/$layout/" -e "s/^target triple.*/target triple = \"$arm\"/" -e 's/ "target-cpu"="[^"]*"//g' "$to/module.ll" |
-        awk '/^define noundef ptr @bhirkulom_/ { returns = 1; sub(/noundef ptr @/, "void @"); sub(/\(ptr noundef %a0/, "(ptr sret(i8) %a0") }
-            returns && /^  ret ptr/ { $0 = "  ret void" }
-            /^}/ { returns = 0 }
-            { print }' >"$to/arm.ll"
-    "$c" --target=$arm -O3 -fPIC -ffunction-sections -c -x ir "$to/arm.ll" -o "$to/collector.o"
-    ar rcs "$to/libcollector.a" "$to/collector.o"
+    layout=$(echo 'int x;' | "$tools/clang" --target=$arm -S -emit-llvm -x c - -o - | grep '^target datalayout')
+    for c in $library; do
+        deps=''
+        for d in $(sed -n "s/^$c:\([^#]*\).*/\1/p" crates.txt); do deps="$deps --extern $d=target/rlib/$d.rlib"; done
+        # shellcheck disable=SC2086
+        rattle build --crate-name $c crates/$c/src/lib.rt --extern "std=$own/rlib/std.rlib" $deps -L dependency=target/rlib \
+            -L "dependency=$own/rlib" --antt-project "$kit/logic/antt-project.json" --logic-built "$own/logic-built" \
+            --crate-type staticlib --toolchain "$to/tools" -o "$to/x86.a" >"$to/build.log" 2>&1 || die "no module: $to/build.log"
+        "$tools/clang" --target=$TARGET -S -emit-llvm -x ir "$to/module.bc" -o "$to/module.ll" -O0 -Xclang -disable-llvm-passes
+        sed -e "s/^target datalayout.*/$layout/" -e "s/^target triple.*/target triple = \"$arm\"/" -e 's/ "target-cpu"="[^"]*"//g' "$to/module.ll" |
+            awk '/^define noundef ptr @bhirkulom_/ { returns = 1; sub(/noundef ptr @/, "void @"); sub(/\(ptr noundef %a0/, "(ptr sret(i8) %a0") }
+                returns && /^  ret ptr/ { $0 = "  ret void" }
+                /^}/ { returns = 0 }
+                { print }' >"$to/arm.ll"
+        "$tools/clang" --target=$arm -O3 -fPIC -ffunction-sections -c -x ir "$to/arm.ll" -o "$to/$c.o"
+        "$tools/llvm-ar" rcs "$to/libcollector.a" "$to/$c.o"
+    done
 }

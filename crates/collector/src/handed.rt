@@ -2,6 +2,15 @@
 // a frame doesn't have is all zeros; no kind, no stop and no refusal has the number 0.
 use rules::ether_type::TAG_LIMIT;
 
+// Statuses. Accepted, or what was asked for is there.
+pub const THERE: usize = 0;
+
+pub const NO_MORE: usize = 1;
+
+pub const REFUSED: usize = 2;
+
+pub const NO_SUCH_ENTRY: usize = 3;
+
 // Some bytes of the frame: their offset from its start, and how many.
 #[repr(C)]
 pub struct Span {

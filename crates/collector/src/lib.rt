@@ -6,14 +6,11 @@ ghost use Rattle.tcp_options.specs.Options.{options, optionOf};
 ghost use Rattle.collector.specs.Handed.{
   entryBy,
   sliceFor,
-  headerFor,
   countFor,
   headsFor,
   optionBy,
 };
 use crate::handed::CountReply;
-use crate::handed::Head;
-use crate::handed::HeaderReply;
 use crate::handed::OptionReply;
 use crate::handed::Packet;
 use checksum::Sum16BitWords;
@@ -103,44 +100,6 @@ pub extern "C" fn bhirkulom_headers(
             return reply::uncounted(refusal);
         }
     }
-}
-
-// Header number k of a frame, counted from 0.
-#[no_mangle]
-pub extern "C" fn bhirkulom_header(frame: &[u8], entry: usize, k: usize) -> HeaderReply
-    ensures answer { λ r. ⌜ r ≡ headerFor (entryBy entry) (now (frame .entry)) k ⌝ }
-    ensures unwritten { λ r. ⌜ now (frame .exit) ≡ now (frame .entry) ⌝ }
-{
-    let mut one: [usize; 3] = [0; 3];
-    let counted = bhirkulom_headers(frame, entry, k, &mut one);
-    let refusal = counted.refusal;
-    if k < counted.count {
-        let header = Head {
-            kind: one[0],
-            at: one[1],
-            len: one[2],
-        };
-        return HeaderReply {
-            status: reply::THERE,
-            header,
-            refusal,
-        };
-    }
-    HeaderReply {
-        status: reply::past(counted.status),
-        header: reply::no_head(),
-        refusal,
-    }
-}
-
-// How many headers a frame has.
-#[no_mangle]
-pub extern "C" fn bhirkulom_count(frame: &[u8], entry: usize) -> CountReply
-    ensures answer { λ r. ⌜ r ≡ countFor (entryBy entry) (now (frame .entry)) ⌝ }
-    ensures unwritten { λ r. ⌜ now (frame .exit) ≡ now (frame .entry) ⌝ }
-{
-    let mut none: [usize; 0] = [];
-    bhirkulom_headers(frame, entry, 0, &mut none)
 }
 
 // Option number k, counted from 0, of what follows byte 20 of a TCP header.

@@ -8,11 +8,7 @@ ghost use Rattle.slicer.specs.Reply.{refusedBy};
 ghost use Rattle.rules.specs.Walk.{is, refusal as refusalOf};
 ghost use Rattle.tcp_options.specs.Paper.{kindOnPaper, optionOnPaper};
 ghost use Rattle.collector.specs.declared.Chosen.the-variants as C;
-ghost use lib.Dec.{eqb};
-ghost use Rattle.rules.specs.Test.{pick};
 ghost use Rattle.collector.specs.Handed.{
-  there,
-  noMore,
   spanOf,
   headOf,
   noHead,
@@ -35,11 +31,15 @@ ghost use Rattle.collector.specs.Handed.{
 };
 use crate::handed::CountReply;
 use crate::handed::Head;
+use crate::handed::NO_MORE;
+use crate::handed::NO_SUCH_ENTRY;
 use crate::handed::Net;
 use crate::handed::OptionReply;
 use crate::handed::Packet;
+use crate::handed::REFUSED;
 use crate::handed::Row;
 use crate::handed::Span;
+use crate::handed::THERE;
 use rules::Ending;
 use rules::Header;
 use rules::Number;
@@ -52,15 +52,6 @@ use slicer::SlicedPacket;
 use slicer::TransportPart;
 use tcp_options::OptionAnswer;
 use tcp_options::OptionKind;
-
-// Accepted, or what was asked for is there.
-pub const THERE: usize = 0;
-
-pub const NO_MORE: usize = 1;
-
-pub const REFUSED: usize = 2;
-
-pub const NO_SUCH_ENTRY: usize = 3;
 
 pub fn no_head() -> Head
     ensures { λ r. ⌜ r ≡ noHead ⌝ }
@@ -236,16 +227,6 @@ pub fn no_packet() -> Packet
 {
     let row = no_row();
     partless(NO_SUCH_ENTRY, row)
-}
-
-// The status of a header past the last, where the count has the status given.
-pub fn past(counted: usize) -> usize
-    ensures { λ r. ⌜ r ≡ pick (eqb counted there) noMore counted ⌝ }
-{
-    if counted == THERE {
-        return NO_MORE;
-    }
-    counted
 }
 
 pub fn counted(count: usize) -> CountReply

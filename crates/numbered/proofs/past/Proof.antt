@@ -1,9 +1,9 @@
--- `reply::past` meets its contract. Assumes nothing.
+-- `past` meets its contract. Assumes nothing.
 use mathlib.Core.Path.{refl}
 use borrow.Author.Tests.{ne-eqb}
 use borrow.Author.Needs.{needs}
-use Rattle.collector.proofs.reply.past.Statement.{statement}
-use Rattle.collector.proofs.reply.past.Tie as tie
+use Rattle.numbered.proofs.past.Statement.{statement}
+use Rattle.numbered.proofs.past.Tie as tie
 
 returns : tie.Need-returns
 returns c = rw (c .if1 .taken)

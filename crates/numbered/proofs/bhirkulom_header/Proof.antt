@@ -1,10 +1,10 @@
 -- `bhirkulom_header` meets its contract. Assumes nothing.
 use mathlib.Core.Path.{refl}
 use Rattle.collector.specs.Handed.{entryBy}
-use Rattle.collector.proofs.Numbered.{header-here, header-past}
+use Rattle.numbered.proofs.Numbered.{header-here, header-past}
 use borrow.Author.Needs.{needs}
-use Rattle.collector.proofs.bhirkulom_header.Statement.{statement}
-use Rattle.collector.proofs.bhirkulom_header.Tie as tie
+use Rattle.numbered.proofs.bhirkulom_header.Statement.{statement}
+use Rattle.numbered.proofs.bhirkulom_header.Tie as tie
 
 slice-aggregate-bhirkulom-headers : tie.Need-slice-aggregate-bhirkulom-headers
 slice-aggregate-bhirkulom-headers c = search needs
@@ -12,14 +12,14 @@ slice-aggregate-bhirkulom-headers c = search needs
 bhirkulom-headers-requires : tie.Need-bhirkulom-headers-requires
 bhirkulom-headers-requires c κs = search needs
 
-array-read-t13 : tie.Need-array-read-t13
-array-read-t13 c = search needs
+array-read-t14 : tie.Need-array-read-t14
+array-read-t14 c = search needs
 
-array-read-t16 : tie.Need-array-read-t16
-array-read-t16 c = search needs
+array-read-t17 : tie.Need-array-read-t17
+array-read-t17 c = search needs
 
-array-read-t19 : tie.Need-array-read-t19
-array-read-t19 c = search needs
+array-read-t20 : tie.Need-array-read-t20
+array-read-t20 c = search needs
 
 returns : tie.Need-returns
 returns c = (header-here (entryBy (c .before .before .before .before .before .before .before .args .entry)) _ (c .before .before .before .before .before .before .before .args .k) (c .before .before .before .before .bhirkulom-headers .ensures .0) (c .before .before .before .before .bhirkulom-headers .ensures .1 .0) (c .if1 .taken), refl)
@@ -27,11 +27,8 @@ returns c = (header-here (entryBy (c .before .before .before .before .before .be
 past-requires : tie.Need-past-requires
 past-requires c κs = search needs
 
-no-head-requires : tie.Need-no-head-requires
-no-head-requires c κs = search needs
-
 returns-2 : tie.Need-returns-2
-returns-2 c = (rw (c .before .past .ensures, c .no-head .ensures) (header-past (entryBy (c .before .before .before .before .before .before .before .before .before .args .entry)) _ (c .before .before .before .before .before .before .before .before .before .args .k) (c .before .before .before .before .before .before .bhirkulom-headers .ensures .0) (c .before .before .if1 .left)), refl)
+returns-2 c = (rw (c .past .ensures) (header-past (entryBy (c .before .before .before .before .before .before .before .before .args .entry)) _ (c .before .before .before .before .before .before .before .before .args .k) (c .before .before .before .before .before .bhirkulom-headers .ensures .0) (c .before .if1 .left)), refl)
 
 pub bhirkulom-header-spec : {M : Type 1} → statement M
 bhirkulom-header-spec =
@@ -39,10 +36,9 @@ bhirkulom-header-spec =
     (tie.spec
     slice-aggregate-bhirkulom-headers
     bhirkulom-headers-requires
-    array-read-t13
-    array-read-t16
-    array-read-t19
+    array-read-t14
+    array-read-t17
+    array-read-t20
     returns
     past-requires
-    no-head-requires
     returns-2)
