@@ -1,7 +1,7 @@
-/* Bhirkulom for C: the functions of the archive that `rt staticlib collector` makes, for x86-64 Linux.
+/* Bhirkulom for C: the functions of the archive that `compare/lib build` makes, for x86-64 Linux.
  *
- * Any bytes of any length get an answer. Nothing lent is written, and no pointer is kept. A pointer must not be null,
- * also where the length is 0, and the bytes behind it must not change during the call. The numbers are those of
+ * Any bytes of any length get an answer. No bytes lent are written, only the numbers lent to bhirkulom_headers, which must
+ * not overlap the frame; no pointer is kept. A pointer must not be null, also where the length is 0, and the bytes behind it must not change during the call. The numbers are those of
  * document 01; a part that a frame doesn't have is all zeros. Proved are the answers of the functions; this header only
  * says again, for C, what crates/collector/src/handed.rt has.
  */

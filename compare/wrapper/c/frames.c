@@ -61,8 +61,9 @@ static void refused(void) {
     check("version before IHL", r.number == BHIRKULOM_IPV4_VERSION && r.values[0] == 5 && r.values[1] == 0);
     struct bhirkulom_count_reply n = bhirkulom_count(frame, 20, BHIRKULOM_IPV6);
     check("IPv6 too short", n.status == BHIRKULOM_REFUSED && n.count == 0 && n.refusal.values[0] == 40);
-    n = bhirkulom_headers(frame, 13, BHIRKULOM_ETHERNET, 0, NULL, 0);
-    check("F1 no headers", n.status == BHIRKULOM_REFUSED && n.count == 0 && n.refusal.number == BHIRKULOM_TOO_SHORT);
+    size_t none[1] = {77};
+    n = bhirkulom_headers(frame, 13, BHIRKULOM_ETHERNET, 0, none, 0);
+    check("F1 no headers", n.status == BHIRKULOM_REFUSED && n.count == 0 && n.refusal.number == BHIRKULOM_TOO_SHORT && none[0] == 77);
     p = bhirkulom_slice(frame, 0, BHIRKULOM_ETHERNET);
     check("no bytes", p.status == BHIRKULOM_REFUSED && p.refusal.values[1] == 0);
 }

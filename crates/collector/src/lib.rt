@@ -1,5 +1,6 @@
 // The collector's functions for C and Rust, over numbers, slices and structs. Any bytes of any length get an answer, and so does
-// any number of an entry. Nothing lent is written. `rt staticlib collector` makes the archive.
+// any number of an entry. No bytes lent are written, only the numbers lent to `bhirkulom_headers`. `compare/lib build` makes the
+// archive, with crate `numbered`.
 ghost use mathlib.Core.Path.{_≡_};
 ghost use Rattle.checksum.specs.Sum.{addSlice, answer, noZero};
 ghost use Rattle.tcp_options.specs.Options.{options, optionOf};
