@@ -1,39 +1,45 @@
+-- `walk::slice_net` meets its contract. Assumes nothing.
+use Rattle.slicer.proofs.Answers.{there, turned}
+use Rattle.slicer.specs.Legs.{netLegOnPaper, linkParts}
+use Rattle.one_header.specs.Turns.{ipKindOf}
+use mathlib.Core.Bool.{false}
+use mathlib.Core.Path.{refl, sym, ap, _∙_}
+use native.Mathlib.Omega.{arith}
 use borrow.Author.Needs.{needs}
 use Rattle.slicer.proofs.walk.slice_net.Statement.{statement}
 use Rattle.slicer.proofs.walk.slice_net.Tie as tie
-use Rattle.slicer.proofs.walk.slice_net.Reads as reads
-use Rattle.slicer.proofs.walk.slice_net.Lts as lts
-use Rattle.slicer.proofs.net.walk_net.Reads as walk-net-reads
-use Rattle.slicer.proofs.walk.refused.Reads as refused-reads
-use Rattle.slicer.proofs.walk.slice_transport.Reads as slice-transport-reads
 
--- src/walk.rt:193:9
 walk-net-requires : tie.Need-walk-net-requires
-walk-net-requires c κs = search needs
+walk-net-requires c κs = (c .before .pre .1, omega arith)
 
--- src/walk.rt:195:25
 enum-known-net : tie.Need-enum-known-net
 enum-known-net c = search needs
 
--- src/walk.rt:196:13
 refused-requires : tie.Need-refused-requires
 refused-requires c κs = search needs
 
--- src/walk.rt:196:13
 returns : tie.Need-returns
-returns c = search needs
+returns c =
+    let b2 = c .before .before in
+    let b4 = b2 .before .before in
+    let b6 = b4 .before .before in
+    let a = b6 .args in λ i. c .refused .ensures ∙ sym (turned (b4 .walk-net .ensures) (ap netLegOnPaper (b2 .net .given .1)) (linkParts (a .front .linked) (a .front .tags)) (a .front .tags) 0 i false)
 
--- src/walk.rt:198:22
 enum-known-net-2 : tie.Need-enum-known-net-2
 enum-known-net-2 c = search needs
 
--- src/walk.rt:199:13
 slice-transport-requires : tie.Need-slice-transport-requires
-slice-transport-requires c κs = search needs
+slice-transport-requires c κs =
+    let b3 = c .before .before .before in
+    let b5 = b3 .before .before in
+    let e = there (b3 .walk-net .ensures) (ap netLegOnPaper (c .before .net2 .given .1)) in (b5 .pre .0, e .headed, e .inside, e .room)
 
--- src/walk.rt:199:13
 returns-2 : tie.Need-returns-2
-returns-2 c = search needs
+returns-2 c =
+    let b2 = c .before .before in
+    let b4 = b2 .before .before in
+    let b6 = b4 .before .before in
+    let a = b6 .args in λ i. c .slice-transport .ensures (ipKindOf (a .kind)) (a .front .tags) i ∙ sym (there (b4 .walk-net .ensures) (ap netLegOnPaper (b2 .net2 .given .1)) .left (linkParts (a .front .linked) (a .front .tags)) (a .front .tags) 0 i false)
 
 pub slice-net-spec : {M : Type 1} → statement M
 slice-net-spec =

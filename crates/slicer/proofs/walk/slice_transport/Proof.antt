@@ -1,52 +1,50 @@
+-- `walk::slice_transport` meets its contract. Assumes nothing.
+use Rattle.slicer.proofs.Answers.{there, turned}
+use Rattle.slicer.specs.Legs.{transportLegOnPaper, foundIp, linkParts}
+use mathlib.Core.Path.{refl, sym, ap, _∙_}
+use native.Mathlib.Omega.{arith}
 use borrow.Author.Needs.{needs}
 use Rattle.slicer.proofs.walk.slice_transport.Statement.{statement}
 use Rattle.slicer.proofs.walk.slice_transport.Tie as tie
-use Rattle.slicer.proofs.walk.slice_transport.Reads as reads
-use Rattle.slicer.proofs.walk.slice_transport.Lts as lts
-use Rattle.rules.proofs.kind.Kind.number.Reads as number-reads
-use Rattle.slicer.proofs.transport.walk_transport.Reads as walk-transport-reads
-use Rattle.slicer.proofs.walk.accepted.Reads as accepted-reads
-use Rattle.slicer.proofs.walk.refused.Reads as refused-reads
 
--- src/walk.rt:159:9
 walk-transport-requires : tie.Need-walk-transport-requires
-walk-transport-requires c κs = search needs
+walk-transport-requires c κs = (c .before .before .pre .2, c .before .before .pre .3)
 
--- src/walk.rt:161:31
 enum-known-leg : tie.Need-enum-known-leg
 enum-known-leg c = search needs
 
--- src/walk.rt:162:13
 refused-requires : tie.Need-refused-requires
 refused-requires c κs = search needs
 
--- src/walk.rt:162:13
 returns : tie.Need-returns
-returns c = search needs
+returns c =
+    let b2 = c .before .before in
+    let b4 = b2 .before .before in
+    let b7 = b4 .before .before .before in
+    let a = b7 .args in λ k t i. c .refused .ensures ∙ sym (turned (b4 .walk-transport .ensures) (ap transportLegOnPaper (b2 .leg .given .1)) (foundIp (a .found) (linkParts (a .front .linked) (a .front .tags))) k t i)
 
--- src/walk.rt:164:28
 enum-known-leg-2 : tie.Need-enum-known-leg-2
 enum-known-leg-2 c = search needs
 
--- src/walk.rt:165:24
 add-from : tie.Need-add-from
-add-from c = search needs
+add-from c = omega (arith, c .before .before .before .before .before .before .before .pre .1)
 
--- src/walk.rt:167:23
 number-requires : tie.Need-number-requires
 number-requires c κs = search needs
 
--- src/walk.rt:175:26
 sub-t19 : tie.Need-sub-t19
-sub-t19 c = search needs
+sub-t19 c = omega (arith, c .before .before .before .before .before .before .before .before .pre .1)
 
--- src/walk.rt:184:13
 accepted-requires : tie.Need-accepted-requires
-accepted-requires c κs = search needs
+accepted-requires c κs = c .before .before .before .before .before .before .before .before .before .before .pre .0
 
--- src/walk.rt:184:13
 returns-2 : tie.Need-returns-2
-returns-2 c = search needs
+returns-2 c =
+    let b3 = c .before .before .before in
+    let b6 = b3 .before .before .before in
+    let b8 = b6 .before .before in
+    let b11 = b8 .before .before .before in
+    let a = b11 .args in λ k t i. c .accepted .ensures ∙ rw (b3 .number2 .ensures) (sym (there (b8 .walk-transport .ensures) (ap transportLegOnPaper (b6 .leg2 .given .1)) (foundIp (a .found) (linkParts (a .front .linked) (a .front .tags))) k t i refl))
 
 pub slice-transport-spec : {M : Type 1} → statement M
 slice-transport-spec =
