@@ -1,6 +1,6 @@
 -- Document 01's starred frames, F1 to F10, in one table under one claim, by computation; besides them F12, the 60-byte line and the
 -- first byte 0x54. Bytes that the paper leaves open are zero.
-use Prim.Native.Nat.{ℕ, _+_, _*_, _/_, _%_}
+use Prim.Native.Nat.{ℕ, _*_, _/_, _%_}
 use mathlib.Core.Path.{_≡_, refl, ap}
 use mathlib.Core.List.{List, [], _∷_, _++_, map}
 use lib.ListN.{replicate}
@@ -11,9 +11,11 @@ use Rattle.rules.specs.declared.kind.Source.{Source}
 use Rattle.rules.specs.declared.kind.Source.the-variants as S
 use Rattle.rules.specs.declared.place.Number.{Number}
 use Rattle.rules.specs.declared.place.Number.the-variants.{Link, Ip}
-use Rattle.rules.specs.Test.{sourceNumber, row, judge}
-use Rattle.rules.specs.Rules.{etherType, ipNumber, isTag, link, transport, chain4, chain6, lengthOf, declaredOf, marksOf, namesOf, turnOf, payloadOf, seenBy, testsBy}
-use Rattle.rules.specs.Place.{leaves, follow, followOf, bytes, outcome, read, start}
+use Rattle.rules.specs.Named.{sourceNumber}
+use Rattle.rules.specs.Test.{row, judge}
+use Rattle.rules.specs.Rules.{etherType, ipNumber, isTag, link, transport, chain4, chain6}
+use Rattle.rules.specs.Rules.{lengthOf, declaredOf, fragmentOf, namesOf, turnOf, payloadOf, seenBy, testsBy}
+use Rattle.rules.specs.Place.{leaves, follow, followOf, bytes, outcome, read, start, opening}
 use Rattle.rules.specs.Walk.{walk, trace, slices}
 use Rattle.laws.specs.Gather.{gathered, listed}
 use Rattle.checksum.specs.Sum.{total, totals, fold, answer, noZero}
@@ -64,7 +66,7 @@ pub record Row : Type 0 where
 
 -- what the definitions give
 pub ask : Question → Told
-ask (frame s) = reply (replyOf Ethernet2 s .ended)
+ask (frame s) = reply (replyOf E.Ethernet s .ended)
 ask (sum slices) = checksum (answer (fold (totals slices)))
 ask (no-zero slices) = checksum (noZero (answer (fold (totals slices))))
 
@@ -129,7 +131,9 @@ table =
 
 -- every row's answer is the listed one
 pub frames-right : map (λ (r : Row). ask (r .asked)) table ≡ map (λ (r : Row). r .told) table
-unfolding table ask _gives_ stop short other zeros two ethernet tag ipv4 ipv6 udp tcp replyOf gathered listed slots slices trace walk start read outcome bytes seenBy judge testsBy leaves lengthOf declaredOf marksOf namesOf turnOf payloadOf follow followOf link isTag chain4 chain6 transport total totals fold noZero
+unfolding table ask _gives_ stop short other zeros two ethernet tag ipv4 ipv6 udp tcp replyOf gathered listed slots slices opening trace walk
+    start read outcome bytes seenBy judge testsBy leaves lengthOf declaredOf fragmentOf namesOf turnOf payloadOf follow followOf
+    link isTag chain4 chain6 transport total totals fold noZero
 frames-right = refl
 
 -- and so is that of `slice`: what it tells of a frame is what the definitions give

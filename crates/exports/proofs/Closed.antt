@@ -20,8 +20,10 @@ use Rattle.steps.specs.Lists.{countOnPaper}
 use Rattle.exports.specs.declared.handed.Net.{Net}
 use Rattle.exports.specs.Handed.{linkHeader, netOf, transportHeader, endOf, packet, packetBy, acceptedWith, countBy}
 
-pub accepted-reply : (p : SlicedPacket) (n : Net) (e : Ending) (r : Reply) → p .outcome ≡ O.Accepted e → n ≡ netOf (p .net) → packetOnPaper p ≡ r → acceptedWith p n (endingOnPaper e) ≡ packetBy r
-accepted-reply p n e r o m h = ap (λ (z : Net). acceptedWith p z (endingOnPaper e)) m ∙ ap (λ x. packet (linkHeader (p .link)) (p .count) (p .tags) (netOf (p .net)) (transportHeader (p .transport)) (endOf (outcomeOnPaper x))) (sym o) ∙ ap packetBy h
+pub accepted-reply : (p : SlicedPacket) (n : Net) (e : Ending) (r : Reply) → p .outcome ≡ O.Accepted e → n ≡ netOf (p .net) → packetOnPaper p ≡ r
+    → acceptedWith p n (endingOnPaper e) ≡ packetBy r
+accepted-reply p n e r o m h = ap (λ (z : Net). acceptedWith p z (endingOnPaper e)) m ∙ ap (λ x. packet (linkHeader (p .link)) (p .count) (p .tags)
+    (netOf (p .net)) (transportHeader (p .transport)) (endOf (outcomeOnPaper x))) (sym o) ∙ ap packetBy h
 
 abbrev isRefusal : Ended → ℕ
 isRefusal (accepted x) = 0

@@ -30,22 +30,26 @@ laid-here [] k h = absurd (omega arith)
 laid-here (e ∷ hs) zero h = refl
 laid-here (e ∷ hs) (suc k) h = laid-here hs k (omega arith)
 
-here : (t : Trace HeaderAt) (k : ℕ) → k < countBy (countOf t) .count → headerReply there (headIn (writtenFrom k (headersRead t) room)) (countBy (countOf t) .refusal) ≡ headerBy (headerOf t k)
+here : (t : Trace HeaderAt) (k : ℕ) → k < countBy (countOf t) .count → headerReply there (headIn (writtenFrom k (headersRead t) room)) (countBy
+    (countOf t) .refusal) ≡ headerBy (headerOf t k)
 unfolding countOf headerOf headersRead writtenFrom
 here (W.accepted hs x) k h = laid-here hs k h
 here (W.refused hs r) k h = absurd (omega arith)
 here W.unfinished k h = absurd (omega arith)
 
-past : (t : Trace HeaderAt) (k : ℕ) → countBy (countOf t) .count ≤ k → headerReply (pick (eqb (countBy (countOf t) .status) there) noMore (countBy (countOf t) .status)) noHeader (countBy (countOf t) .refusal) ≡ headerBy (headerOf t k)
+past : (t : Trace HeaderAt) (k : ℕ) → countBy (countOf t) .count ≤ k → headerReply (pick (eqb (countBy (countOf t) .status) there) noMore (countBy
+    (countOf t) .status)) noHeader (countBy (countOf t) .refusal) ≡ headerBy (headerOf t k)
 unfolding countOf headerOf
 past (W.accepted hs x) k h = ap headerBy (sym (nth-past hs k h))
 past (W.refused hs r) k h = refl
 past W.unfinished k h = refl
 
-pub header-here : (e : Chosen) (s : List ℕ) (k : ℕ) {c : CountReply} {o : List ℕ} → c ≡ countFor e s → o ≡ listFor e s k room → k < c .count → headerReply there (headIn o) (c .refusal) ≡ headerFor e s k
+pub header-here : (e : Chosen) (s : List ℕ) (k : ℕ) {c : CountReply} {o : List ℕ} → c ≡ countFor e s → o ≡ listFor e s k room → k < c .count
+    → headerReply there (headIn o) (c .refusal) ≡ headerFor e s k
 header-here (C.Is e) s k a b h = rw (a, b) (here (slices e s) k (rw (← a) h))
 header-here C.Unknown s k a b h = let z : _≡_ {A = ℕ} _ 0 = ap (λ (x : CountReply). x .count) a in absurd (omega arith)
 
-pub header-past : (e : Chosen) (s : List ℕ) (k : ℕ) {c : CountReply} → c ≡ countFor e s → c .count ≤ k → headerReply (pick (eqb (c .status) there) noMore (c .status)) noHeader (c .refusal) ≡ headerFor e s k
+pub header-past : (e : Chosen) (s : List ℕ) (k : ℕ) {c : CountReply} → c ≡ countFor e s → c .count ≤ k → headerReply (pick (eqb
+    (c .status) there) noMore (c .status)) noHeader (c .refusal) ≡ headerFor e s k
 header-past (C.Is e) s k a h = rw a (past (slices e s) k (rw (← a) h))
 header-past C.Unknown s k a h = rw a refl

@@ -179,20 +179,20 @@ module _ (w : List ℕ) (at : ℕ) (p : Room) where
   unfolding followOf turnOf namesOf payloadOf leaves lengthOf declaredOf fragmentOf
   vlan-reads e = ap (λ o. linkHeader o 4 (length w) at p) e ∙ by-fields Vlan _ (λ o. linkHeader o 4 (length w) at p) (λ r. refl) refl
 
-
-
   -- where a room ends that an IP header sets, counted from the header or from the frame's start
   moved : (b : Bool) (have d : ℕ) → at + pick b have d ≡ pick b (at + have) (at + d)
   moved true have d = refl
   moved false have d = refl
 
-  pub ipv4-reads : {o : Placed IpFound} → o ≡ placing (over (λ x. setting x (length w) S.Ipv4 (p .source)) (ipSays Ipv4 (p .version) w)) at (p .source) → ipHeader o 4 at p ≡ readPart w Ipv4 at p
+  pub ipv4-reads : {o : Placed IpFound} → o ≡ placing (over (λ x. setting x (length w) S.Ipv4 (p .source)) (ipSays Ipv4 (p .version) w)) at (p .source)
+      → ipHeader o 4 at p ≡ readPart w Ipv4 at p
   unfolding followOf turnOf namesOf payloadOf leaves lengthOf declaredOf fragmentOf
   ipv4-reads e =
       ap (λ o. ipHeader o 4 at p) e ∙ by-part Ipv4 _ (λ x. setting x (length w) S.Ipv4 (p .source)) (λ o. ipHeader o 4 at p) (λ r. refl)
       (rw (moved (eqb (value totalLength (seen Ipv4 w)) 0) (length w) (value totalLength (seen Ipv4 w))) refl)
 
-  pub ipv6-reads : {o : Placed IpFound} → o ≡ placing (over (λ x. setting x (length w) S.Ipv6 (p .source)) (ipSays Ipv6 (p .version) w)) at (p .source) → ipHeader o 6 at p ≡ readPart w Ipv6 at p
+  pub ipv6-reads : {o : Placed IpFound} → o ≡ placing (over (λ x. setting x (length w) S.Ipv6 (p .source)) (ipSays Ipv6 (p .version) w)) at (p .source)
+      → ipHeader o 6 at p ≡ readPart w Ipv6 at p
   unfolding followOf turnOf namesOf payloadOf leaves lengthOf declaredOf fragmentOf
   ipv6-reads e =
       ap (λ o. ipHeader o 6 at p) e ∙ by-part Ipv6 _ (λ x. setting x (length w) S.Ipv6 (p .source)) (λ o. ipHeader o 6 at p) (λ r. refl)

@@ -207,7 +207,12 @@ pub fn header_at(w: &[u8], kind: Kind, at: usize, room: Room) -> HeaderRead
         Kind::Routing => ext_header(ext_at(w, ExtKind::Routing, at, source), 6, have, room),
         Kind::Destination => ext_header(ext_at(w, ExtKind::Destination, at, source), 6, have, room),
         Kind::Fragment => ext_header(ext_at(w, ExtKind::Fragment, at, source), 6, have, room),
-        Kind::Auth => ext_header(ext_at(w, ExtKind::Auth, at, source), room.version, have, room),
+        Kind::Auth => ext_header(
+            ext_at(w, ExtKind::Auth, at, source),
+            room.version,
+            have,
+            room,
+        ),
         Kind::Udp => transport_header(udp_at(w, at, source), ip_number::UDP, have, room),
         Kind::Tcp => transport_header(tcp_at(w, at, source), ip_number::TCP, have, room),
     }

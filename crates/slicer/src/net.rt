@@ -104,7 +104,14 @@ pub enum ExtsLeg {
 }
 
 // A loop, so that the stack does not grow with the chain.
-fn walk_exts(s: &[u8], begin: IpNumber, from: usize, end: usize, source: RoomSource, marked: bool) -> ExtsLeg
+fn walk_exts(
+    s: &[u8],
+    begin: IpNumber,
+    from: usize,
+    end: usize,
+    source: RoomSource,
+    marked: bool,
+) -> ExtsLeg
     requires { ⌜ (from ≤ end) × (end ≤ length (now s)) ⌝ }
     ensures { λ r. ⌜ Extended (now (s .entry)) begin from end source marked (extsLegOnPaper r) ⌝ }
 {

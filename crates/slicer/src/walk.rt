@@ -225,7 +225,14 @@ pub fn slice(s: &[u8], entry: Entry) -> SlicedPacket
                         len: s.len() - at,
                     };
                     let last = Number::Link(number);
-                    return accepted(front, NetPart::Nothing, TransportPart::Nothing, payload, last, stop);
+                    return accepted(
+                        front,
+                        NetPart::Nothing,
+                        TransportPart::Nothing,
+                        payload,
+                        last,
+                        stop,
+                    );
                 }
             }
         }

@@ -76,7 +76,8 @@ module _ {s : List ℕ} where
   first-in (last {at} r) o h = absurd (not-is (ended at) h)
   first-in (bad {at} {n} r) o h = absurd (not-is (refused (row n at)) h)
 
-  next-in : {at : ℕ} {os : List Listed} {e : Ending} → Chain s at os e → (k : ℕ) (o p : Listed) → nth os k (endingAnswer e) ≡ is o → nth os (suc k) (endingAnswer e) ≡ is p → p .at ≡ o .at + o .size
+  next-in : {at : ℕ} {os : List Listed} {e : Ending} → Chain s at os e → (k : ℕ) (o p : Listed) → nth os k (endingAnswer e) ≡ is o → nth os (suc k)
+      (endingAnswer e) ≡ is p → p .at ≡ o .at + o .size
   next-in (next r c) zero o p h i = first-in c p i ∙ ap (λ (x : Listed). x .at + x .size) (is-is h)
   next-in (next r c) (suc k) o p h i = next-in c k o p h i
   next-in (last {at} r) k o p h i = absurd (not-is (ended at) h)

@@ -11,7 +11,8 @@ use lib.Seq.{drop-cons, drop-drop}
 use borrow.Author.Tests.{ltb-false, leb-true, eq-eqb, ne-eqb}
 use Rattle.rules.specs.Bytes.{byteAt}
 use Rattle.rules.specs.Test.{pick}
-use Rattle.tcp_options.specs.Options.{endOfList, noop, noopSize, Kind, named, sizesOf, fits, noLengthByte, lengthNotSound, wrongSize, lists, ends, refuses, sound, readSized, readLong, readKind, read, Listed, listed, row, ended, refused, Options, walk}
+use Rattle.tcp_options.specs.Options.{endOfList, noop, noopSize, Kind, named, sizesOf, fits, noLengthByte, lengthNotSound, wrongSize, lists, ends}
+use Rattle.tcp_options.specs.Options.{refuses, sound, readSized, readLong, readKind, read, Listed, listed, row, ended, refused, Options, walk}
 
 -- ---- one option
 

@@ -39,8 +39,14 @@ returns-2 c =
     let b2 = c .before .before in
     let b6 = b2 .before .before .before .before in
     let b9 = b6 .before .before .before in
-    let b11 = b9 .before .before in
-    (rw (← b11 .entry-by .ensures, b9 .chosen .given .1) (c .counted2 .ensures ∙ count-reply (b2 .counted .given .1) (b6 .headers .ensures .0)), (rw (← b11 .entry-by .ensures, b9 .chosen .given .1) (b6 .headers .ensures .1 .0), refl))
+    let b11 = b9 .before .before in (
+      rw (← b11 .entry-by .ensures, b9 .chosen .given .1) (c .counted2 .ensures ∙ count-reply (b2 .counted .given .1) (b6 .headers .ensures .0)),
+      (
+        rw
+            (← b11 .entry-by .ensures, b9 .chosen .given .1) (b6 .headers .ensures .1 .0),
+        refl,
+      ),
+    )
 
 enum-known-counted-2 : tie.Need-enum-known-counted-2
 enum-known-counted-2 c = search needs
@@ -56,8 +62,14 @@ returns-3 c =
     let b2 = c .before .before in
     let b6 = b2 .before .before .before .before in
     let b9 = b6 .before .before .before in
-    let b11 = b9 .before .before in
-    (rw (← b11 .entry-by .ensures, b9 .chosen .given .1) (c .uncounted .ensures ∙ count-reply (b2 .counted3 .given .1) (b6 .headers .ensures .0)), (rw (← b11 .entry-by .ensures, b9 .chosen .given .1) (b6 .headers .ensures .1 .0), refl))
+    let b11 = b9 .before .before in (
+      rw (← b11 .entry-by .ensures, b9 .chosen .given .1) (c .uncounted .ensures ∙ count-reply (b2 .counted3 .given .1) (b6 .headers .ensures .0)),
+      (
+        rw
+            (← b11 .entry-by .ensures, b9 .chosen .given .1) (b6 .headers .ensures .1 .0),
+        refl,
+      ),
+    )
 
 pub bhirkulom-headers-spec : {M : Type 1} → statement M
 bhirkulom-headers-spec =

@@ -42,8 +42,11 @@ returns-2 c =
     let b5 = b2 .before .before .before in
     let b7 = b5 .before .before in
     let b9 = b7 .before .before in
-    let b11 = b9 .before .before in
-    (rw (← b11 .entry-by .ensures, b9 .chosen .given .1) (c .accepted-packet .ensures ∙ accepted-reply _ _ _ _ (b5 .outcome .given .1) (rw (b2 .enum-told2 .given .1) (c .before .no-net .ensures)) (b7 .slice .ensures .0)), refl)
+    let b11 = b9 .before .before in (
+      rw (← b11 .entry-by .ensures, b9 .chosen .given .1) (c .accepted-packet .ensures ∙ accepted-reply _ _ _ _ (b5 .outcome .given .1) (rw
+          (b2 .enum-told2 .given .1) (c .before .no-net .ensures)) (b7 .slice .ensures .0)),
+      refl,
+    )
 
 enum-known-net : tie.Need-enum-known-net
 enum-known-net c = search needs
@@ -60,8 +63,11 @@ returns-3 c =
     let b6 = b3 .before .before .before in
     let b8 = b6 .before .before in
     let b10 = b8 .before .before in
-    let b12 = b10 .before .before in
-    (rw (← b12 .entry-by .ensures, b10 .chosen .given .1) (c .accepted-packet2 .ensures ∙ accepted-reply _ _ _ _ (b6 .outcome .given .1) (rw (b3 .net .given .1) (c .before .net-by .ensures)) (b8 .slice .ensures .0)), refl)
+    let b12 = b10 .before .before in (
+      rw (← b12 .entry-by .ensures, b10 .chosen .given .1) (c .accepted-packet2 .ensures ∙ accepted-reply _ _ _ _ (b6 .outcome .given .1) (rw
+          (b3 .net .given .1) (c .before .net-by .ensures)) (b8 .slice .ensures .0)),
+      refl,
+    )
 
 enum-known-outcome-2 : tie.Need-enum-known-outcome-2
 enum-known-outcome-2 c = search needs

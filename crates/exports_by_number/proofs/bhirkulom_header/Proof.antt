@@ -22,13 +22,22 @@ array-read-t20 : tie.Need-array-read-t20
 array-read-t20 c = search needs
 
 returns : tie.Need-returns
-returns c = (header-here (entryBy (c .before .before .before .before .before .before .before .args .entry)) _ (c .before .before .before .before .before .before .before .args .k) (c .before .before .before .before .bhirkulom-headers .ensures .0) (c .before .before .before .before .bhirkulom-headers .ensures .1 .0) (c .if1 .taken), refl)
+returns c =
+    let b4 = c .before .before .before .before in
+    let b7 = b4 .before .before .before in (
+      header-here (entryBy (b7 .args .entry)) _ (b7 .args .k) (b4 .bhirkulom-headers .ensures .0) (b4 .bhirkulom-headers .ensures .1 .0)
+          (c .if1 .taken),
+      refl,
+    )
 
 past-requires : tie.Need-past-requires
 past-requires c κs = search needs
 
 returns-2 : tie.Need-returns-2
-returns-2 c = (rw (c .past .ensures) (header-past (entryBy (c .before .before .before .before .before .before .before .before .args .entry)) _ (c .before .before .before .before .before .before .before .before .args .k) (c .before .before .before .before .before .bhirkulom-headers .ensures .0) (c .before .if1 .left)), refl)
+returns-2 c =
+    let b5 = c .before .before .before .before .before in
+    let b8 = b5 .before .before .before in
+    (rw (c .past .ensures) (header-past (entryBy (b8 .args .entry)) _ (b8 .args .k) (b5 .bhirkulom-headers .ensures .0) (c .before .if1 .left)), refl)
 
 pub bhirkulom-header-spec : {M : Type 1} → statement M
 bhirkulom-header-spec =

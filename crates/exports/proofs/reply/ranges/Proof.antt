@@ -42,8 +42,12 @@ loop-less c = search needs
 loop-again : tie.Need-loop-again Inv-loop μ-loop
 loop-again c =
     let b2 = c .before .before in
-    let b3 = b2 .before in
-    (omega arith, simp length-set (omega arith), filled-next rangeOf (b2 .loop .out) (b3 .args .t1) (b2 .loop .i) noHeader (omega arith) (omega (arith, b3 .good .0 .1 .0 .1)) (b2 .loop .inv .2))
+    let b3 = b2 .before in (
+      omega arith,
+      simp length-set (omega arith),
+      filled-next rangeOf (b2 .loop .out) (b3 .args .t1) (b2 .loop .i) noHeader (omega arith) (omega
+          (arith, b3 .good .0 .1 .0 .1)) (b2 .loop .inv .2),
+    )
 
 returns : tie.Need-returns Inv-loop μ-loop
 returns c =

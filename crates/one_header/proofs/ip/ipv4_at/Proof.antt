@@ -23,7 +23,8 @@ returns : tie.Need-returns
 returns c =
     let b3 = c .before .before .before in
     let b5 = b3 .before .before in
-    λ v. let z = ap ipOnPaper (c .before .enum-told .given .1) in refused-over (b5 .args .at) (b5 .args .source) (b3 .read-ipv4 .ensures v) (λ x. setting x _ S.Ipv4 _) z (c .refuse-ip .ensures _ z)
+    λ v. let z = ap ipOnPaper (c .before .enum-told .given .1) in refused-over (b5 .args .at) (b5 .args .source) (b3 .read-ipv4 .ensures v)
+    (λ x. setting x _ S.Ipv4 _) z (c .refuse-ip .ensures _ z)
 
 set-room-requires : tie.Need-set-room-requires
 set-room-requires c κs = search needs

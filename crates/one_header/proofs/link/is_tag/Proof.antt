@@ -11,7 +11,6 @@ same-bool : (b : Bool) → b ≡ pick b true false
 same-bool true = refl
 same-bool false = refl
 
-
 returns : tie.Need-returns
 unfolding isTag
 returns c = simp (eq-eqb _ _ (c .if1 .taken))

@@ -57,7 +57,8 @@ add-at c =
     let b8 = b5 .before .before .before in
     let b10 = b8 .before .before in
     let b11 = b10 .before in
-    let z = along-ahead (b11 .loop .inv) _ (b10 .ext-turn .ensures) _ (b8 .turn .given .1) (b5 .ext-at .ensures) (ap extAtOnPaper (b3 .read2 .given .1)) in omega (arith, z .1, b11 .loop .inv .room)
+    let z = along-ahead (b11 .loop .inv) _ (b10 .ext-turn .ensures) _ (b8 .turn .given .1) (b5 .ext-at .ensures) (ap extAtOnPaper
+    (b3 .read2 .given .1)) in omega (arith, z .1, b11 .loop .inv .room)
 
 marks-requires : tie.Need-marks-requires Inv-loop μ-loop
 marks-requires c κs = search needs

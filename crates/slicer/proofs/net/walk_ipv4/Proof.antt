@@ -58,7 +58,8 @@ returns-2 c =
     let b7 = b2 .before .before .before .before .before in
     let b9 = b7 .before .before in
     let b12 = b9 .before .before .before in
-    went (ipv4-plain (ipv4-answer (b12 .pre .0) (b12 .pre .1) (b9 .ipv4-at .ensures)) (ap ipAtOnPaper (b7 .read2 .given .1)) (b2 .marks .ensures) (c .before .opens-auth .ensures) (c .if1 .taken))
+    went (ipv4-plain (ipv4-answer (b12 .pre .0) (b12 .pre .1) (b9 .ipv4-at .ensures)) (ap ipAtOnPaper (b7 .read2 .given .1)) (b2 .marks .ensures)
+    (c .before .opens-auth .ensures) (c .if1 .taken))
 
 sub-ext-at : tie.Need-sub-ext-at
 sub-ext-at c =
@@ -96,7 +97,8 @@ returns-3 c =
     let b12 = b7 .before .before .before .before .before in
     let b14 = b12 .before .before in
     let b17 = b14 .before .before .before in
-    stuck (auth-short (ipv4-answer (b17 .pre .0) (b17 .pre .1) (b14 .ipv4-at .ensures)) (ap ipAtOnPaper (b12 .read2 .given .1)) (b7 .marks .ensures) (b6 .opens-auth .ensures) (b5 .if1 .left) (b3 .ext-at .ensures) (ap extAtOnPaper (c .before .auth .given .1)))
+    stuck (auth-short (ipv4-answer (b17 .pre .0) (b17 .pre .1) (b14 .ipv4-at .ensures)) (ap ipAtOnPaper (b12 .read2 .given .1)) (b7 .marks .ensures)
+    (b6 .opens-auth .ensures) (b5 .if1 .left) (b3 .ext-at .ensures) (ap extAtOnPaper (c .before .auth .given .1)))
 
 enum-known-auth-2 : tie.Need-enum-known-auth-2
 enum-known-auth-2 c = search needs
@@ -111,7 +113,9 @@ add-behind c =
     let b13 = b8 .before .before .before .before .before in
     let b15 = b13 .before .before in
     let b18 = b15 .before .before .before in
-    let h = ipv4-answer (b18 .pre .0) (b18 .pre .1) (b15 .ipv4-at .ensures) in let z = ip-in h (ap ipAtOnPaper (b13 .read2 .given .1)) in let y = auth-in h (ap ipAtOnPaper (b13 .read2 .given .1)) (b8 .marks .ensures) (b7 .opens-auth .ensures) (b6 .if1 .left) (b4 .ext-at .ensures) (ap extAtOnPaper (b2 .auth2 .given .1)) in omega (arith, y, z .1, z .2)
+    let h = ipv4-answer (b18 .pre .0) (b18 .pre .1) (b15 .ipv4-at .ensures) in let z = ip-in h (ap ipAtOnPaper
+    (b13 .read2 .given .1)) in let y = auth-in h (ap ipAtOnPaper (b13 .read2 .given .1)) (b8 .marks .ensures) (b7 .opens-auth .ensures)
+    (b6 .if1 .left) (b4 .ext-at .ensures) (ap extAtOnPaper (b2 .auth2 .given .1)) in omega (arith, y, z .1, z .2)
 
 marks-requires-2 : tie.Need-marks-requires-2
 marks-requires-2 c κs = search needs
@@ -126,7 +130,8 @@ returns-4 c =
     let b15 = b10 .before .before .before .before .before in
     let b17 = b15 .before .before in
     let b20 = b17 .before .before .before in
-    went (ipv4-auth (ipv4-answer (b20 .pre .0) (b20 .pre .1) (b17 .ipv4-at .ensures)) (ap ipAtOnPaper (b15 .read2 .given .1)) (b10 .marks .ensures) (b9 .opens-auth .ensures) (b8 .if1 .left) (b6 .ext-at .ensures) (ap extAtOnPaper (b4 .auth2 .given .1)) (c .marks2 .ensures))
+    went (ipv4-auth (ipv4-answer (b20 .pre .0) (b20 .pre .1) (b17 .ipv4-at .ensures)) (ap ipAtOnPaper (b15 .read2 .given .1)) (b10 .marks .ensures)
+    (b9 .opens-auth .ensures) (b8 .if1 .left) (b6 .ext-at .ensures) (ap extAtOnPaper (b4 .auth2 .given .1)) (c .marks2 .ensures))
 
 pub walk-ipv4-spec : {M : Type 1} → statement M
 walk-ipv4-spec =

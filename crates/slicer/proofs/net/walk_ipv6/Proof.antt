@@ -68,7 +68,8 @@ returns-2 c =
     let b9 = b4 .before .before .before .before .before in
     let b11 = b9 .before .before in
     let b14 = b11 .before .before .before in
-    stuck (ipv6-stuck (ipv6-answer (b14 .pre .0) (b14 .pre .1) (b11 .ipv6-at .ensures)) (ap ipAtOnPaper (b9 .read2 .given .1)) (b4 .marks .ensures) (turned (b3 .walk-exts .ensures) (ap extsLegOnPaper (c .before .leg .given .1))))
+    stuck (ipv6-stuck (ipv6-answer (b14 .pre .0) (b14 .pre .1) (b11 .ipv6-at .ensures)) (ap ipAtOnPaper (b9 .read2 .given .1)) (b4 .marks .ensures)
+    (turned (b3 .walk-exts .ensures) (ap extsLegOnPaper (c .before .leg .given .1))))
 
 enum-known-leg-2 : tie.Need-enum-known-leg-2
 enum-known-leg-2 c = search needs
@@ -81,7 +82,8 @@ returns-3 c =
     let b10 = b5 .before .before .before .before .before in
     let b12 = b10 .before .before in
     let b15 = b12 .before .before .before in
-    went (ipv6-done (ipv6-answer (b15 .pre .0) (b15 .pre .1) (b12 .ipv6-at .ensures)) (ap ipAtOnPaper (b10 .read2 .given .1)) (b5 .marks .ensures) (there (b4 .walk-exts .ensures) (ap extsLegOnPaper (b2 .leg2 .given .1))))
+    went (ipv6-done (ipv6-answer (b15 .pre .0) (b15 .pre .1) (b12 .ipv6-at .ensures)) (ap ipAtOnPaper (b10 .read2 .given .1)) (b5 .marks .ensures) (there
+    (b4 .walk-exts .ensures) (ap extsLegOnPaper (b2 .leg2 .given .1))))
 
 pub walk-ipv6-spec : {M : Type 1} → statement M
 walk-ipv6-spec =

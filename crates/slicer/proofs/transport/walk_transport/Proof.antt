@@ -47,7 +47,8 @@ opened-requires c κs =
     let b5 = b3 .before .before in
     let b7 = b5 .before .before in
     let b9 = b7 .before .before in
-    let z = udp-in _ _ _ _ _ _ _ (b7 .transport-turn .ensures) (b9 .pre .0) (b9 .pre .1) (b5 .enum-told .given .1) (b3 .udp-at .ensures) (ap transportAtOnPaper (c .before .read2 .given .1)) in (z .0, omega (arith, z .1, b9 .pre .1))
+    let z = udp-in _ _ _ _ _ _ _ (b7 .transport-turn .ensures) (b9 .pre .0) (b9 .pre .1) (b5 .enum-told .given .1) (b3 .udp-at .ensures)
+    (ap transportAtOnPaper (c .before .read2 .given .1)) in (z .0, omega (arith, z .1, b9 .pre .1))
 
 enum-told-2 : tie.Need-enum-told-2
 enum-told-2 c = search needs
@@ -76,13 +77,15 @@ opened-requires-2 c κs =
     let b5 = b3 .before .before in
     let b7 = b5 .before .before in
     let b9 = b7 .before .before in
-    let z = tcp-in _ _ _ _ _ _ _ (b7 .transport-turn .ensures) (b9 .pre .0) (b9 .pre .1) (b5 .enum-told2 .given .1) (b3 .tcp-at .ensures) (ap transportAtOnPaper (c .before .read4 .given .1)) in (z .0, omega (arith, z .1, b9 .pre .1))
+    let z = tcp-in _ _ _ _ _ _ _ (b7 .transport-turn .ensures) (b9 .pre .0) (b9 .pre .1) (b5 .enum-told2 .given .1) (b3 .tcp-at .ensures)
+    (ap transportAtOnPaper (c .before .read4 .given .1)) in (z .0, omega (arith, z .1, b9 .pre .1))
 
 returns : tie.Need-returns
 returns c =
     let b2 = c .before .before in
     let b4 = b2 .before .before in
-    went (λ f k t i n. unopened _ _ _ _ _ _ _ (b4 .transport-turn .ensures) (b2 .turn .given .1) f k t i n ∙ sym (ap (λ (x : TransportFound). acceptedBy (withTransport f (x .transport)) (endingOnPaper (x .ending))) (c .unopened .ensures)))
+    went (λ f k t i n. unopened _ _ _ _ _ _ _ (b4 .transport-turn .ensures) (b2 .turn .given .1) f k t i n ∙ sym (ap (λ (x : TransportFound). acceptedBy
+    (withTransport f (x .transport)) (endingOnPaper (x .ending))) (c .unopened .ensures)))
 
 returns-2 : tie.Need-returns-2
 returns-2 c =
@@ -90,7 +93,8 @@ returns-2 c =
     let b5 = b3 .before .before in
     let b7 = b5 .before .before in
     let b9 = b7 .before .before in
-    stuck (udp-short _ _ _ _ _ _ _ (b7 .transport-turn .ensures) (b9 .pre .0) (b9 .pre .1) (b5 .enum-told .given .1) (b3 .udp-at .ensures) (ap transportAtOnPaper (c .before .read .given .1)))
+    stuck (udp-short _ _ _ _ _ _ _ (b7 .transport-turn .ensures) (b9 .pre .0) (b9 .pre .1) (b5 .enum-told .given .1) (b3 .udp-at .ensures)
+    (ap transportAtOnPaper (c .before .read .given .1)))
 
 returns-3 : tie.Need-returns-3
 returns-3 c =
@@ -99,7 +103,9 @@ returns-3 c =
     let b6 = b4 .before .before in
     let b8 = b6 .before .before in
     let b10 = b8 .before .before in
-    went (λ f k t i n. udp-on _ _ _ _ _ _ _ (b8 .transport-turn .ensures) (b10 .pre .0) (b10 .pre .1) (b6 .enum-told .given .1) (b4 .udp-at .ensures) (ap transportAtOnPaper (b2 .read2 .given .1)) f k t i ∙ sym (ap (λ (x : TransportFound). acceptedBy (withTransport f (x .transport)) (endingOnPaper (x .ending))) (c .opened .ensures)))
+    went (λ f k t i n. udp-on _ _ _ _ _ _ _ (b8 .transport-turn .ensures) (b10 .pre .0) (b10 .pre .1) (b6 .enum-told .given .1) (b4 .udp-at .ensures)
+    (ap transportAtOnPaper (b2 .read2 .given .1)) f k t i ∙ sym (ap (λ (x : TransportFound). acceptedBy (withTransport f (x .transport))
+    (endingOnPaper (x .ending))) (c .opened .ensures)))
 
 returns-4 : tie.Need-returns-4
 returns-4 c =
@@ -107,7 +113,8 @@ returns-4 c =
     let b5 = b3 .before .before in
     let b7 = b5 .before .before in
     let b9 = b7 .before .before in
-    stuck (tcp-short _ _ _ _ _ _ _ (b7 .transport-turn .ensures) (b9 .pre .0) (b9 .pre .1) (b5 .enum-told2 .given .1) (b3 .tcp-at .ensures) (ap transportAtOnPaper (c .before .read3 .given .1)))
+    stuck (tcp-short _ _ _ _ _ _ _ (b7 .transport-turn .ensures) (b9 .pre .0) (b9 .pre .1) (b5 .enum-told2 .given .1) (b3 .tcp-at .ensures)
+    (ap transportAtOnPaper (c .before .read3 .given .1)))
 
 returns-5 : tie.Need-returns-5
 returns-5 c =
@@ -116,7 +123,9 @@ returns-5 c =
     let b6 = b4 .before .before in
     let b8 = b6 .before .before in
     let b10 = b8 .before .before in
-    went (λ f k t i n. tcp-on _ _ _ _ _ _ _ (b8 .transport-turn .ensures) (b10 .pre .0) (b10 .pre .1) (b6 .enum-told2 .given .1) (b4 .tcp-at .ensures) (ap transportAtOnPaper (b2 .read4 .given .1)) f k t i ∙ sym (ap (λ (x : TransportFound). acceptedBy (withTransport f (x .transport)) (endingOnPaper (x .ending))) (c .opened2 .ensures)))
+    went (λ f k t i n. tcp-on _ _ _ _ _ _ _ (b8 .transport-turn .ensures) (b10 .pre .0) (b10 .pre .1) (b6 .enum-told2 .given .1) (b4 .tcp-at .ensures)
+    (ap transportAtOnPaper (b2 .read4 .given .1)) f k t i ∙ sym (ap (λ (x : TransportFound). acceptedBy (withTransport f (x .transport))
+    (endingOnPaper (x .ending))) (c .opened2 .ensures)))
 
 pub walk-transport-spec : {M : Type 1} → statement M
 walk-transport-spec =

@@ -42,7 +42,11 @@ returns-2 c =
     let b5 = b2 .before .before .before in
     let b7 = b5 .before .before in
     let b9 = b7 .before .before in
-    let e = there (b7 .walk-link .ensures) (ap linkLegOnPaper (b5 .leg2 .given .1)) in (c .slice-net .ensures 1 ∙ sym (to-ip e (b2 .turn .given .1)) ∙ sym (reply-is _ (b9 .args .s .now)), refl)
+    let e = there (b7 .walk-link .ensures) (ap linkLegOnPaper (b5 .leg2 .given .1)) in (
+      c .slice-net .ensures 1 ∙ sym (to-ip e (b2 .turn .given .1)) ∙ sym
+          (reply-is _ (b9 .args .s .now)),
+      refl,
+    )
 
 enum-known-turn-2 : tie.Need-enum-known-turn-2
 enum-known-turn-2 c = search needs
@@ -65,7 +69,11 @@ returns-3 c =
     let b6 = b3 .before .before .before in
     let b8 = b6 .before .before in
     let b10 = b8 .before .before in
-    let e = there (b8 .walk-link .ensures) (ap linkLegOnPaper (b6 .leg2 .given .1)) in (c .accepted .ensures ∙ sym (to-stop e (b3 .turn2 .given .1)) ∙ sym (reply-is _ (b10 .args .s .now)), refl)
+    let e = there (b8 .walk-link .ensures) (ap linkLegOnPaper (b6 .leg2 .given .1)) in (
+      c .accepted .ensures ∙ sym (to-stop e (b3 .turn2 .given .1)) ∙ sym
+          (reply-is _ (b10 .args .s .now)),
+      refl,
+    )
 
 pub slice-spec : {M : Type 1} → statement M
 slice-spec =

@@ -49,8 +49,14 @@ loop-less c = search needs
 loop-again : tie.Need-loop-again Inv-loop μ-loop
 loop-again c =
     let b2 = c .before .before in
-    let b5 = b2 .before .before .before in
-    (omega arith, omega arith, ⊎-elim (λ w. w .1 ∙ rw (b2 .loop .inv .2, b2 .loop .inv .1, b2 .loop .inv .3) (filled-next (b2 .loop .i) (b5 .args .count) (c .before .loop-test .taken) (w .0 .taken))) (λ w. w .1 ∙ b2 .loop .inv .2 ∙ filled-last (b2 .loop .i) (b5 .args .count) (w .0 .left)) (c .if1 .came), b2 .loop .inv .3)
+    let b5 = b2 .before .before .before in (
+      omega arith,
+      omega arith,
+      ⊎-elim (λ w. w .1 ∙ rw (b2 .loop .inv .2, b2 .loop .inv .1, b2 .loop .inv .3) (filled-next (b2 .loop .i) (b5 .args .count)
+          (c .before .loop-test .taken) (w .0 .taken))) (λ w. w .1 ∙ b2 .loop .inv .2 ∙ filled-last (b2 .loop .i) (b5 .args .count) (w .0 .left))
+          (c .if1 .came),
+      b2 .loop .inv .3,
+    )
 
 returns : tie.Need-returns Inv-loop μ-loop
 returns c =

@@ -33,7 +33,11 @@ too-short-requires-2 c κs = search needs
 
 returns-3 : tie.Need-returns-3
 unfolding says testsBy seenBy
-returns-3 c = λ v. simp (← c .before .before .before .byte .ensures) (judged (on (c .before .before .before .before .if1 .left) (on (c .before .before .if2 .left) (off (beyond (c .before .if3 .taken)) (c .too-short2 .ensures)))))
+returns-3 c =
+    let b2 = c .before .before in
+    let b3 = b2 .before in
+    let b4 = b3 .before in
+    λ v. simp (← b3 .byte .ensures) (judged (on (b4 .if1 .left) (on (b2 .if2 .left) (off (beyond (c .before .if3 .taken)) (c .too-short2 .ensures)))))
 
 returns-4 : tie.Need-returns-4
 unfolding says testsBy seenBy

@@ -1,3 +1,4 @@
+-- `refusal::Refusal::row` meets its contract. Assumes nothing.
 use borrow.Author.Needs.{needs}
 use Rattle.rules.proofs.refusal.Refusal.row.Statement.{statement}
 use Rattle.rules.proofs.refusal.Refusal.row.Tie as tie
