@@ -28,6 +28,7 @@ use crate::link::ethernet2_at;
 use crate::link::link_turn;
 use crate::link::vlan_at;
 use crate::transport::TransportAt;
+use crate::transport::stop_behind;
 use crate::transport::tcp_at;
 use crate::transport::transport_turn;
 use crate::transport::udp_at;
@@ -38,7 +39,6 @@ use rules::Number;
 use rules::Refusal;
 use rules::Room;
 use rules::RoomSource;
-use rules::Stop;
 use rules::Turn;
 use rules::ip_number;
 use rules::length;
@@ -183,7 +183,7 @@ fn transport_header(read: TransportAt, number: u8, have: usize, room: Room) -> H
                 to: x.end,
                 version: room.version,
                 number: Number::Ip(IpNumber(number)),
-                turn: Turn::Stops(Stop::TransportRead),
+                turn: Turn::Stops(stop_behind()),
                 source,
                 mark: room.mark,
             })

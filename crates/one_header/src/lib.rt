@@ -30,6 +30,7 @@ pub use link::link_turn;
 pub use link::vlan_at;
 pub use transport::TransportAt;
 pub use transport::TransportTurn;
+pub use transport::stop_behind;
 pub use transport::tcp_at;
 pub use transport::transport_turn;
 pub use transport::udp_at;

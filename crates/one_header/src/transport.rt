@@ -2,6 +2,7 @@
 ghost use mathlib.Core.Path.{_≡_};
 ghost use Prim.Native.Nat.{ℕ};
 ghost use Rattle.rules.specs.declared.place.Room.{Room as R};
+ghost use Rattle.rules.specs.declared.stop.Stop.the-variants as S;
 ghost use Rattle.rules.specs.Rules.{transport};
 ghost use Rattle.headers.specs.Says.{udpSays, tcpSays};
 ghost use Rattle.one_header.specs.At.{transportAtOnPaper, placing};
@@ -40,6 +41,13 @@ pub fn tcp_at(w: &[u8], at: usize, source: RoomSource) -> TransportAt
         return TransportAt::Refused(refuse_transport(answer, at, source));
     };
     TransportAt::Whole(x)
+}
+
+// Why a walk stops behind a transport header.
+pub fn stop_behind() -> Stop
+    ensures { λ r. ⌜ r ≡ S.TransportRead ⌝ }
+{
+    Stop::TransportRead
 }
 
 pub enum TransportTurn {

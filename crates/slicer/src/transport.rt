@@ -7,6 +7,7 @@ use crate::packet::TransportPart;
 use headers::TransportHeader;
 use one_header::TransportAt;
 use one_header::TransportTurn;
+use one_header::stop_behind;
 use one_header::tcp_at;
 use one_header::transport_turn;
 use one_header::udp_at;
@@ -63,7 +64,7 @@ fn opened(number: IpNumber, kind: Kind, at: usize, x: TransportHeader) -> Transp
         ending: Ending {
             payload,
             number: Number::Ip(number),
-            stop: Stop::TransportRead,
+            stop: stop_behind(),
         },
         transport: TransportPart::Is(header),
     }

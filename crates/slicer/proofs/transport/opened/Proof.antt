@@ -13,8 +13,11 @@ sub-t8 c = omega (arith, c .before .before .pre .0)
 number-requires : tie.Need-number-requires
 number-requires c κs = search needs
 
+stop-behind-requires : tie.Need-stop-behind-requires
+stop-behind-requires c κs = search needs
+
 returns : tie.Need-returns
-returns c = rw (c .number .ensures)
+returns c = rw (c .before .number .ensures, c .stop-behind .ensures)
 
 pub opened-spec : {M : Type 1} → statement M
-opened-spec = tie.close (tie.spec add-t7 sub-t8 number-requires returns)
+opened-spec = tie.close (tie.spec add-t7 sub-t8 number-requires stop-behind-requires returns)
