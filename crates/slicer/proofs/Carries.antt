@@ -36,7 +36,7 @@ use Rattle.one_header.specs.Header.{transportHeader}
 use Rattle.slicer.specs.declared.packet.TransportPart.the-variants as P
 use Rattle.slicer.specs.Reply.{Parts, acceptedBy, refusedBy, sliceWay, withTransport, put}
 use Rattle.slicer.specs.Legs.{onTurn, headOf, netRoom, onTransport, stoppedAt, openedAt}
-use Rattle.slicer.proofs.Reading.{Reads, made, whole-is, no, within, udp-read, tcp-read, back, toward}
+use Rattle.slicer.proofs.ReadersAt.{Reads, made, whole-is, no, within, udp-read, tcp-read, back, toward}
 
 -- what a number leads to behind the extensions, as transport_turn promises it
 abbrev Turned : TransportTurn → IpNumber → Bool → Type 0

@@ -39,7 +39,7 @@ use Rattle.one_header.specs.Header.{extHeader}
 use Rattle.slicer.specs.declared.net.ExtsFound.{ExtsFound}
 use Rattle.slicer.specs.Reply.{Parts, refusedBy, sliceWay, withNet, ipPart, putExt, put}
 use Rattle.slicer.specs.Legs.{onTurn, headOf, netPlace, netRoom, onTransport, NetDone, onChain, ExtsDone}
-use Rattle.slicer.proofs.Reading.{Reads, made, whole-is, no, within, ext-read, back, toward}
+use Rattle.slicer.proofs.ReadersAt.{Reads, made, whole-is, no, within, ext-read, back, toward}
 use Rattle.slicer.proofs.Nets.{IpRead, ip-stood, ip-in, headed, inner}
 
 -- what was found with the extensions of the IP header h up to `at`

@@ -31,7 +31,7 @@ use Rattle.one_header.specs.At.{Placed, here, refused, placing, over, setting}
 use Rattle.one_header.specs.Header.{ipHeader, extHeader}
 use Rattle.slicer.specs.Reply.{Parts, refusedBy, sliceWay, withNet, ipPart}
 use Rattle.slicer.specs.Legs.{onTurn, headOf, netPlace, netRoom, onTransport, NetDone}
-use Rattle.slicer.proofs.Reading.{Reads, made, whole-is, no, Within, within, ipv4-read, ipv6-read, auth-read, back, toward}
+use Rattle.slicer.proofs.ReadersAt.{Reads, made, whole-is, no, Within, within, ipv4-read, ipv6-read, auth-read, back, toward}
 
 -- ---- an IP header of either version
 

@@ -26,7 +26,7 @@ use Rattle.one_header.specs.Turns.{linkEndOnPaper, ipKindOf}
 use Rattle.slicer.specs.declared.link.LinkFound.{LinkFound}
 use Rattle.slicer.specs.Reply.{nothing, range, slots, acceptedBy, Reply, replyOf, sliceWay}
 use Rattle.slicer.specs.Legs.{onTurn, headOf, tagsFrom, linkParts, linkRoom, netPlace, endingBy, LinkDone}
-use Rattle.slicer.proofs.Reading.{toward}
+use Rattle.slicer.proofs.ReadersAt.{toward}
 
 -- the promised reply is gathered from how the frame opens
 pub reply-is : (e : Entry) (s : List ℕ) → replyOf e s ≡ rest sliceWay nothing s (opening e s)

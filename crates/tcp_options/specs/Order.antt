@@ -4,7 +4,7 @@ use mathlib.Core.Path.{_≡_, refl, sym, ap, _∙_}
 use mathlib.Core.List.{List, [], _∷_}
 use native.Mathlib.Omega.{arith}
 use lib.ListN.{length, drop, length-drop}
-use Rattle.tcp_options.specs.Options.{Kind, Reading, lists, ends, refuses, read, Listed, listed, row, Ending, ended, refused, options, is, endingAnswer, nth, optionOf}
+use Rattle.tcp_options.specs.Options.{Kind, OptionRead, lists, ends, refuses, read, Listed, listed, row, Ending, ended, refused, options, is, endingAnswer, nth, optionOf}
 use Rattle.tcp_options.specs.Steps.{lists-fits, from, from-lists, from-ends, from-refuses}
 
 -- ---- the options are a chain, and there is no other
@@ -25,7 +25,7 @@ pub chain : (s : List ℕ) → Chain s 0 (options s .list) (options s .ending)
 unfolding options from ChainFrom
 chain s = go (length s) 0 (omega arith)
   where
-    step : (at : ℕ) (r : Reading) → read (drop at s) ≡ r → ((size : ℕ) → 1 ≤ size → at + size ≤ length s → ChainFrom s (at + size)) → ChainFrom s at
+    step : (at : ℕ) (r : OptionRead) → read (drop at s) ≡ r → ((size : ℕ) → 1 ≤ size → at + size ≤ length s → ChainFrom s (at + size)) → ChainFrom s at
     step at (lists kind size) e later =
         let z = lists-fits (drop at s) e in
         rw (from-lists s at kind size e) (next e (later size (z .0) (omega (arith, length-drop at s))))
