@@ -38,11 +38,11 @@ impl IpKind {
 // An IP header and the room that it sets: where that ends, counted from the header, and what set it. This and other answers that
 // stand beside a refusal end in a usize, since a refusal ends in a byte (docs/ARCHITECTURE.md, Layout of types).
 pub struct IpFound {
-    pub names: IpNumber,
-    pub fragment: Fragment,
-    pub source: RoomSource,
     pub len: usize,
     pub end: usize,
+    pub source: RoomSource,
+    pub names: IpNumber,
+    pub fragment: Fragment,
 }
 
 pub enum IpAt {

@@ -23,14 +23,14 @@ use rules::RoomSource;
 
 // An IP header, where its extensions end and its room ends, and the number that names what follows.
 pub struct NetFound {
-    pub number: IpNumber,
     pub kind: Kind,
-    pub source: RoomSource,
-    pub mark: bool,
     pub begin: usize,
     pub len: usize,
     pub at: usize,
     pub end: usize,
+    pub source: RoomSource,
+    pub number: IpNumber,
+    pub mark: bool,
 }
 
 pub enum NetLeg {

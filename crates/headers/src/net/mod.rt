@@ -24,8 +24,8 @@ pub enum IpRead {
 
 pub struct ExtHeader {
     pub names: IpNumber,
-    pub fragment: Fragment,
     pub len: usize,
+    pub fragment: Fragment,
 }
 
 pub enum ExtRead {
