@@ -60,7 +60,7 @@ pub data Told : Type 0 where
   reply : Ended → Told
   checksum : ℕ → Told
 
-pub record Row : Type 0 where
+pub record Sample : Type 0 where
   pub asked : Question
   pub told : Told
 
@@ -71,7 +71,7 @@ ask (sum slices) = checksum (answer (fold (totals slices)))
 ask (no-zero slices) = checksum (noZero (answer (fold (totals slices))))
 
 infixl 1 _gives_
-_gives_ : Question → Told → Row
+_gives_ : Question → Told → Sample
 q gives t = record { asked = q; told = t }
 
 -- a stop, the number that names the payload, and where the payload begins and ends
@@ -84,7 +84,7 @@ short layer offset required have source = reply (refused (row 1 layer offset (re
 other : ℕ → Layer → (offset value : ℕ) → Told
 other n layer offset value = reply (refused (row n layer offset (value ∷ 0 ∷ 0 ∷ [])))
 
-pub table : List Row
+pub table : List Sample
 table =
     -- F1: 13 bytes; 14 bytes of type 0x0806
     (frame (zeros 13) gives short (Of Ethernet2) 0 14 13 S.Slice)
@@ -130,7 +130,7 @@ table =
     ∷ []
 
 -- every row's answer is the listed one
-pub frames-right : map (λ (r : Row). ask (r .asked)) table ≡ map (λ (r : Row). r .told) table
+pub frames-right : map (λ (r : Sample). ask (r .asked)) table ≡ map (λ (r : Sample). r .told) table
 unfolding table ask _gives_ stop short other zeros two ethernet tag ipv4 ipv6 udp tcp replyOf gathered listed slots slices opening trace walk
     start read outcome bytes seenBy judge testsBy leaves lengthOf declaredOf fragmentOf namesOf turnOf payloadOf follow followOf
     link isTag chain4 chain6 transport total totals fold noZero

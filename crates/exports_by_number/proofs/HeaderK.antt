@@ -24,16 +24,16 @@ room = 0 ∷ 0 ∷ 0 ∷ []
 abbrev pub headIn : List ℕ → Header
 headIn o = record { kind = getD o 0 0; at = getD o 1 0; len = getD o 2 0 }
 
-laid-here : (hs : List HeaderAt) (k : ℕ) → k < length hs → headerReply there (headIn (written (drop k (map header hs)) room)) noRow ≡ headerBy (nth (map header hs) k)
+written-here : (hs : List HeaderAt) (k : ℕ) → k < length hs → headerReply there (headIn (written (drop k (map header hs)) room)) noRow ≡ headerBy (nth (map header hs) k)
 unfolding written
-laid-here [] k h = absurd (omega arith)
-laid-here (e ∷ hs) zero h = refl
-laid-here (e ∷ hs) (suc k) h = laid-here hs k (omega arith)
+written-here [] k h = absurd (omega arith)
+written-here (e ∷ hs) zero h = refl
+written-here (e ∷ hs) (suc k) h = written-here hs k (omega arith)
 
 here : (t : Trace HeaderAt) (k : ℕ) → k < countBy (countOf t) .count → headerReply there (headIn (writtenFrom k (headersRead t) room)) (countBy
     (countOf t) .refusal) ≡ headerBy (headerOf t k)
 unfolding countOf headerOf headersRead writtenFrom
-here (W.accepted hs x) k h = laid-here hs k h
+here (W.accepted hs x) k h = written-here hs k h
 here (W.refused hs r) k h = absurd (omega arith)
 here W.unfinished k h = absurd (omega arith)
 

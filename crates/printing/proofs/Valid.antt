@@ -72,16 +72,16 @@ data Few (p : Room) : Turn → Type 0 where
   stopping : {w : Stop} → Few p (Stops w)
   refusing : Few p LateHopByHop
 
-either : {p : Room} (b : Bool) {t u : Turn} → Few p t → Few p u → Few p (pick b t u)
-either true a b = a
-either false a b = b
+pick-few : {p : Room} (b : Bool) {t u : Turn} → Few p t → Few p u → Few p (pick b t u)
+pick-few true a b = a
+pick-few false a b = b
 
 module _ (p : Room) (tags : p .tags ≤ N.tagLimit) where
   link-few : (n : ℕ) → p .ips ≡ 0 → Few p (link p n)
   unfolding link
   link-few n z =
-      either (isTag n) (go (ltb (p .tags) N.tagLimit) refl)
-      (either (eqb n N.ipv4Type) (opens {k = Ipv4} tags (omega arith) tt) (either (eqb n N.ipv6Type) (opens {k = Ipv6} tags (omega arith) tt) stopping))
+      pick-few (isTag n) (go (ltb (p .tags) N.tagLimit) refl)
+      (pick-few (eqb n N.ipv4Type) (opens {k = Ipv4} tags (omega arith) tt) (pick-few (eqb n N.ipv6Type) (opens {k = Ipv6} tags (omega arith) tt) stopping))
     where
       go : (b : Bool) → ltb (p .tags) N.tagLimit ≡ b → Few p (pick b (Opens Vlan) (Stops S.TagsFull))
       go true e = let y = ltb-true (p .tags) N.tagLimit e in opens {k = Vlan} (omega arith) (omega arith) z
@@ -91,8 +91,8 @@ module _ (p : Room) (tags : p .tags ≤ N.tagLimit) where
     transport-few : (n : ℕ) → Few p (transport p n)
     unfolding transport
     transport-few n =
-        either (p .mark) stopping
-        (either (eqb n N.udpNumber) (opens tags ips tt) (either (eqb n N.tcpNumber) (opens tags ips tt) stopping))
+        pick-few (p .mark) stopping
+        (pick-few (eqb n N.udpNumber) (opens tags ips tt) (pick-few (eqb n N.tcpNumber) (opens tags ips tt) stopping))
 
     early : (at : ChainPlace) → Few p (hopByHop at)
     early Directly = opens tags ips tt
@@ -101,23 +101,23 @@ module _ (p : Room) (tags : p .tags ≤ N.tagLimit) where
     chain6-few : (at : ChainPlace) (n : ℕ) → Few p (chain6 at p n)
     unfolding chain6
     chain6-few at n =
-        either (eqb n N.hopByHopNumber) (early at)
-        (either (eqb n N.routingNumber) (opens tags ips tt)
-        (either (eqb n N.destinationNumber) (opens tags ips tt)
-        (either (eqb n N.fragmentNumber) (opens tags ips tt)
-        (either (eqb n N.authNumber) (opens tags ips tt) (transport-few n)))))
+        pick-few (eqb n N.hopByHopNumber) (early at)
+        (pick-few (eqb n N.routingNumber) (opens tags ips tt)
+        (pick-few (eqb n N.destinationNumber) (opens tags ips tt)
+        (pick-few (eqb n N.fragmentNumber) (opens tags ips tt)
+        (pick-few (eqb n N.authNumber) (opens tags ips tt) (transport-few n)))))
 
     turn-few : (k : Kind) (g : ℕ → ℕ) → BeforeIp k (p .ips) → Few p (turnOf k g p)
     unfolding turnOf chain4
     turn-few Ethernet2 g z = link-few (number 2 g 12) z
     turn-few Vlan g z = link-few (number 2 g 2) z
-    turn-few Ipv4 g z = either (eqb (g 9) N.authNumber) (opens tags ips tt) (transport-few (g 9))
+    turn-few Ipv4 g z = pick-few (eqb (g 9) N.authNumber) (opens tags ips tt) (transport-few (g 9))
     turn-few Ipv6 g z = chain6-few Directly (g 6)
     turn-few HopByHop g z = chain6-few Later (g 0)
     turn-few Routing g z = chain6-few Later (g 0)
     turn-few Destination g z = chain6-few Later (g 0)
     turn-few Fragment g z = chain6-few Later (g 0)
-    turn-few Auth g z = either (eqb (p .version) 4) (transport-few (g 0)) (chain6-few Later (g 0))
+    turn-few Auth g z = pick-few (eqb (p .version) 4) (transport-few (g 0)) (chain6-few Later (g 0))
     turn-few Udp g z = stopping
     turn-few Tcp g z = stopping
 

@@ -29,28 +29,28 @@ digit-short {n} h = decimal-short 0 n h
 record Short (m : ℕ) (w : List ℕ) : Type 0 where
   short : length w ≤ m
 
-either : {m : ℕ} (b : Bool) {w v : List ℕ} → Short m w → Short m v → Short m (pick b w v)
-either true x y = x
-either false x y = y
+pick-short : {m : ℕ} (b : Bool) {w v : List ℕ} → Short m w → Short m v → Short m (pick b w v)
+pick-short true x y = x
+pick-short false x y = y
 
 name-short : (n : ℕ) → Short 11 (nameOf n)
 name-short n =
-    either (eqb n 1) (omega arith)
-    (either (eqb n 2) (omega arith)
-    (either (eqb n 3) (omega arith)
-    (either (eqb n 4) (omega arith)
-    (either (eqb n 5) (omega arith)
-    (either (eqb n 6) (omega arith)
-    (either (eqb n 7) (omega arith)
-    (either (eqb n 8) (omega arith)
-    (either (eqb n 9) (omega arith)
-    (either (eqb n 10) (omega arith)
-    (either (eqb n 11) (omega arith)
-    (either (eqb n 13) (omega arith)
-    (either (eqb n 14) (omega arith) (omega arith)))))))))))))
+    pick-short (eqb n 1) (omega arith)
+    (pick-short (eqb n 2) (omega arith)
+    (pick-short (eqb n 3) (omega arith)
+    (pick-short (eqb n 4) (omega arith)
+    (pick-short (eqb n 5) (omega arith)
+    (pick-short (eqb n 6) (omega arith)
+    (pick-short (eqb n 7) (omega arith)
+    (pick-short (eqb n 8) (omega arith)
+    (pick-short (eqb n 9) (omega arith)
+    (pick-short (eqb n 10) (omega arith)
+    (pick-short (eqb n 11) (omega arith)
+    (pick-short (eqb n 13) (omega arith)
+    (pick-short (eqb n 14) (omega arith) (omega arith)))))))))))))
 
 source-short : (n : ℕ) → Short 5 (sourceName n)
-source-short n = either (eqb n 1) (omega arith) (either (eqb n 2) (omega arith) (either (eqb n 3) (omega arith) (omega arith)))
+source-short n = pick-short (eqb n 1) (omega arith) (pick-short (eqb n 2) (omega arith) (pick-short (eqb n 3) (omega arith) (omega arith)))
 
 -- ---- lines
 

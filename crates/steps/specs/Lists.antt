@@ -1,4 +1,4 @@
--- Headers by number and their count, and the headers laid out as numbers.
+-- Headers by number and their count, and the headers written as numbers.
 use Prim.Native.Nat.{ℕ}
 use mathlib.Core.Path.{_≡_}
 use mathlib.Core.List.{List, [], _∷_, map}
@@ -22,7 +22,7 @@ abbrev pub countOnPaper : CountAnswer → Answer ℕ
 countOnPaper (C.Is n) = is n
 countOnPaper (C.Refused r) = refusal (refusalOnPaper r)
 
--- ---- the headers laid out as numbers
+-- ---- the headers written as numbers
 
 -- the headers read whole, in order, also of a refused frame
 unfoldable pub headersRead : Trace HeaderAt → List Header

@@ -13,7 +13,7 @@ use Rattle.tcp_options.specs.declared.answer.OptionAnswer.the-variants a
 use Rattle.tcp_options.proofs.answer.OptionAnswer.{the-type}
 use Rattle.tcp_options.specs.Options.{OptionRead, lists, ends, refuses, read, Listed, listed, options, no-more, optionOf, answerBy}
 use Rattle.tcp_options.specs.Paper.{kindOnPaper, optionOnPaper}
-use Rattle.tcp_options.specs.Steps.{lists-fits, from, behind, from-lists, from-ends, from-refuses}
+use Rattle.tcp_options.specs.OneOption.{lists-fits, from, behind, from-lists, from-ends, from-refuses}
 
 -- `place` options were passed, and the next begins at `at`
 pub record Going (s : List ℕ) (k at place : ℕ) : Type 0 where

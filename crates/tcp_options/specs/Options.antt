@@ -39,16 +39,16 @@ abbrev pub timestamp : ℕ
 timestamp = 8
 
 -- a known kind and its sizes
-pub record Entry : Type 0 where
+pub record KnownOption : Type 0 where
   pub kind : ℕ
   pub sizes : List ℕ
 
 infixl 20 _has_
-abbrev pub _has_ : ℕ → List ℕ → Entry
+abbrev pub _has_ : ℕ → List ℕ → KnownOption
 kind has sizes = record { kind = kind; sizes = sizes }
 
 -- "1 is one byte; 2 has size 4, 3 has 3, 4 has 2, 5 has 10, 18, 26 or 34, 8 has 10"
-abbrev pub table : List Entry
+abbrev pub table : List KnownOption
 table = (noop has (noopSize ∷ []))
     ∷ (maximumSegmentSize has (4 ∷ []))
     ∷ (windowScale has (3 ∷ []))
@@ -74,7 +74,7 @@ abbrev pub numberOf : Kind → ℕ
 numberOf (known n) = n
 numberOf (unknown n) = n
 
-abbrev pub sizesIn : List Entry → ℕ → Sizes
+abbrev pub sizesIn : List KnownOption → ℕ → Sizes
 sizesIn [] n = any
 sizesIn (x ∷ xs) n = pick (eqb n (x .kind)) (oneOf (x .sizes)) (sizesIn xs n)
 

@@ -5,7 +5,7 @@ use mathlib.Core.List.{List, [], _∷_}
 use native.Mathlib.Omega.{arith}
 use lib.ListN.{length, drop, length-drop}
 use Rattle.tcp_options.specs.Options.{Kind, OptionRead, lists, ends, refuses, read, Listed, listed, row, Ending, ended, refused, options, is, endingAnswer, nth, optionOf}
-use Rattle.tcp_options.specs.Steps.{lists-fits, from, from-lists, from-ends, from-refuses}
+use Rattle.tcp_options.specs.OneOption.{lists-fits, from, from-lists, from-ends, from-refuses}
 
 -- ---- the options are a chain, and there is no other
 
