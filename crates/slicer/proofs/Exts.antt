@@ -1,12 +1,11 @@
--- The IPv6 leg: the header, and the loop over its extensions. Assumes nothing.
+-- The loop over the extensions of an IPv6 header. Assumes nothing.
 use Prim.Native.Nat.{ℕ, _+_, _-_, _≤_}
 use mathlib.Core.Path.{_≡_, refl, sym, ap, _∙_}
 use mathlib.Core.List.{List, [], _∷_}
-use mathlib.Core.Bool.{Bool, false}
+use mathlib.Core.Bool.{Bool}
 use native.Mathlib.Omega.{arith}
 use lib.ListN.{length}
 use Rattle.rules.specs.declared.ip_number.IpNumber.{IpNumber}
-use Rattle.rules.specs.declared.kind.Kind.{Kind}
 use Rattle.rules.specs.declared.kind.Kind.the-variants.{Ipv6, HopByHop}
 use Rattle.rules.specs.declared.kind.Layer.the-variants.{Of}
 use Rattle.rules.specs.declared.kind.RoomSource.{RoomSource}
@@ -16,7 +15,6 @@ use Rattle.rules.specs.declared.place.Room.{Room}
 use Rattle.rules.specs.declared.refusal.Row.{Row}
 use Rattle.rules.specs.declared.turn.ChainPlace.{ChainPlace}
 use Rattle.rules.specs.declared.turn.ChainPlace.the-variants.{Directly, Later}
-use Rattle.rules.specs.declared.turn.Turn.{Turn}
 use Rattle.rules.specs.Bytes.{part}
 use Rattle.rules.specs.Numbers.{hopByHopNotAtStart}
 use Rattle.rules.specs.Test.{row}
@@ -24,7 +22,7 @@ use Rattle.rules.specs.Fields.{marking}
 use Rattle.rules.specs.Rules.{transport, chain6}
 use Rattle.rules.specs.Place.{place, entered, follow}
 use Rattle.rules.specs.Walk.{HeaderAt}
-use Rattle.laws.specs.Gather.{gather, rest, rest-next, rest-wrong}
+use Rattle.laws.specs.Gather.{gather, rest-next, rest-wrong}
 use Rattle.laws.specs.Parts.{In}
 use Rattle.headers.specs.declared.net.ExtHeader.{ExtHeader}
 use Rattle.headers.specs.Says.{extSays}
@@ -32,15 +30,12 @@ use Rattle.one_header.specs.declared.ext.ExtKind.{ExtKind}
 use Rattle.one_header.specs.declared.ext.ExtKind.the-variants as X
 use Rattle.one_header.specs.declared.ext.ExtTurn.{ExtTurn}
 use Rattle.one_header.specs.declared.ext.ExtTurn.the-variants as T
-use Rattle.one_header.specs.declared.ip.IpFound.{IpFound}
 use Rattle.one_header.specs.Turns.{extKindOf, extTurn, turnBy, chain6-is}
 use Rattle.one_header.specs.At.{Placed, here, refused, placing}
 use Rattle.one_header.specs.Header.{extHeader}
-use Rattle.slicer.specs.declared.net.ExtsFound.{ExtsFound}
 use Rattle.slicer.specs.Reply.{Parts, refusedBy, sliceWay, withNet, ipPart, putExt, put}
-use Rattle.slicer.specs.Legs.{onTurn, headOf, netPlace, netRoom, onTransport, NetDone, onChain, ExtsDone}
+use Rattle.slicer.specs.Legs.{onTurn, netRoom, onChain, ExtsDone}
 use Rattle.slicer.proofs.ReadersAt.{Reads, made, whole-is, no, within, ext-read, back, toward}
-use Rattle.slicer.proofs.Nets.{IpRead, ip-stood, ip-in, headed, inner}
 
 -- what was found with the extensions of the IP header h up to `at`
 abbrev extended : Parts → Header → (from at : ℕ) → Bool → Parts
@@ -96,7 +91,7 @@ module _ {s : List ℕ} {begin : IpNumber} {from end : ℕ} {source : RoomSource
   unfolding onTurn follow
   along-late q f h t i = known q f h t i ∙ rest-wrong sliceWay _ s _
 
-  pub along-ends : u ≡ T.Ends → ExtsDone s begin from end source marked (record { at = at; number = number; mark = mark })
+  pub along-ends : u ≡ T.Ends → ExtsDone s Ipv6 begin from end source marked (record { at = at; number = number; mark = mark })
   along-ends q = record { left = known q; headed = w .headed; inside = w .inside }
 
   module _ (k : ExtKind) (q : u ≡ T.Opens k) {o : Placed ExtHeader} (e : (v : ℕ) → o ≡ placing (extSays (extKindOf k) v (part s at end)) at source) where
@@ -135,24 +130,3 @@ module _ {s : List ℕ} {begin : IpNumber} {from end : ℕ} {source : RoomSource
 pub along-first : (s : List ℕ) (begin : IpNumber) (from end : ℕ) (source : RoomSource) (marked : Bool) → from ≤ end → end ≤ length s
     → Along s begin from end source marked begin from marked Directly
 along-first s begin from end source marked a b = record { headed = omega arith; inside = a; room = b; left = λ f h t i. refl }
-
--- ---- the IPv6 header
-
-module _ {s : List ℕ} {at end : ℕ} {source : RoomSource} {o : Placed IpFound} (h : IpRead s Ipv6 6 at end source o) {x : IpFound} (z : o ≡ here x)
-    {mark : Bool} (me : mark ≡ marking (x .fragment) false) where
-  ipv6-on : (f : Parts) (t v i : ℕ) (m : Bool) → gather sliceWay f s (netPlace Ipv6 at end t v i source m)
-      ≡ onChain s Directly f (headOf Ipv6 at (x .len)) (at + x .len) (inner Ipv6 at x mark t i) (x .names) (at + x .len)
-  unfolding onTurn
-  ipv6-on f t v i m = whole-is f (ip-stood h z t v i m) ∙ rw me refl
-
-  pub ipv6-done : {y : ExtsFound} → ExtsDone s (x .names) (at + x .len) (at + x .end) (x .source) mark y
-      → NetDone s Ipv6 at end source
-      (record { number = y .number; kind = Ipv6; source = x .source; mark = y .mark; begin = at; len = x .len; at = y .at; end = at + x .end })
-  ipv6-done w =
-      let c = ip-in h z in
-      record { left = λ f t v i m. ipv6-on f t v i m ∙ w .left f _ t i; headed = w .headed; inside = w .inside; room = omega (arith, c .1, c .2) }
-
-  pub ipv6-stuck : {r : Row}
-      → ((f : Parts) (g : Header) (t i : ℕ) → onChain s Directly f g (at + x .len) (inner Ipv6 at x mark t i) (x .names) (at + x .len) ≡ refusedBy r)
-      → (f : Parts) (t v i : ℕ) (m : Bool) → gather sliceWay f s (netPlace Ipv6 at end t v i source m) ≡ refusedBy r
-  ipv6-stuck w f t v i m = ipv6-on f t v i m ∙ w f _ t i

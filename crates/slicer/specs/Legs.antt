@@ -9,7 +9,7 @@ use Rattle.rules.specs.declared.entry.Entry.{Entry}
 use Rattle.rules.specs.declared.ether_type.EtherType.{EtherType}
 use Rattle.rules.specs.declared.ip_number.IpNumber.{IpNumber}
 use Rattle.rules.specs.declared.kind.Kind.{Kind}
-use Rattle.rules.specs.declared.kind.Kind.the-variants.{Ethernet2, Vlan, Ipv6}
+use Rattle.rules.specs.declared.kind.Kind.the-variants.{Ethernet2, Vlan}
 use Rattle.rules.specs.declared.kind.RoomSource.{RoomSource}
 use Rattle.rules.specs.declared.kind.RoomSource.the-variants as S
 use Rattle.rules.specs.declared.place.Header.{Header}
@@ -23,7 +23,6 @@ use Rattle.rules.specs.declared.stop.Ending.{Ending}
 use Rattle.rules.specs.declared.stop.Stop.{Stop}
 use Rattle.rules.specs.declared.stop.Stop.the-variants as Z
 use Rattle.rules.specs.declared.turn.ChainPlace.{ChainPlace}
-use Rattle.rules.specs.declared.turn.ChainPlace.the-variants.{Directly}
 use Rattle.rules.specs.declared.turn.Turn.{Turn}
 use Rattle.rules.specs.Numbers.{ethernetLength, tagLength, tagLimit}
 use Rattle.rules.specs.Named.{kindNumber}
@@ -33,7 +32,12 @@ use Rattle.rules.specs.Rules.{rule, link, transport, chain6}
 use Rattle.rules.specs.Place.{room, place, opening, follow, endingOnPaper}
 use Rattle.laws.specs.Gather.{gather, rest}
 use Rattle.headers.specs.declared.transport.TransportHeader.{TransportHeader}
-use Rattle.one_header.specs.Turns.{linkEndOnPaper}
+use Rattle.headers.specs.Says.{ipSays}
+use Rattle.one_header.specs.declared.ip.IpFound.{IpFound}
+use Rattle.one_header.specs.declared.ip.IpKind.{IpKind}
+use Rattle.one_header.specs.declared.ip.IpKind.the-variants as I
+use Rattle.one_header.specs.At.{Placed, placing, over, setting}
+use Rattle.one_header.specs.Turns.{ipKindOf, firstTurn, linkEndOnPaper}
 use Rattle.slicer.specs.declared.packet.NetPart.{NetPart}
 use Rattle.slicer.specs.declared.packet.TransportPart.{TransportPart}
 use Rattle.slicer.specs.declared.packet.TransportPart.the-variants as P
@@ -163,22 +167,35 @@ abbrev pub Netted : List ℕ → Kind → (at end : ℕ) → RoomSource → Ends
 Netted s k at end source =
     Went (NetDone s k at end source) (λ r. (f : Parts) (t v i : ℕ) (m : Bool) → gather sliceWay f s (netPlace k at end t v i source m) ≡ refusedBy r)
 
--- ---- the extensions of an IPv6 header h, from the offset `from` on
+-- an IP header at a place, as `one_header` answers it; its room, where it declares one, is the header's own
+abbrev pub setsOf : IpKind → RoomSource
+setsOf I.Ipv4 = S.Ipv4
+setsOf I.Ipv6 = S.Ipv6
 
--- the reply from a number of the chain on, with the extensions up to `at` found
+pub record IpAnswer (w : List ℕ) (k : IpKind) (at : ℕ) (source : RoomSource) (o : Placed IpFound) : Type 0 where
+  pub is : (v : ℕ) → o ≡ placing (over (λ x. setting x (length w) (setsOf k) source) (ipSays (ipKindOf k) v w)) at source
+
+-- ---- the extensions of an IP header h of kind k, from the offset `from` on
+
+-- the reply from the header's number on
+abbrev pub onFirst : List ℕ → Kind → Parts → Header → ℕ → Room → IpNumber → Reply
+onFirst s k f h from p number =
+    onTurn s (withNet f (ipPart h from from (p .mark))) (firstTurn (rule k .version) p (number .0)) p from (Ip number)
+
+-- the reply from a number of an IPv6 chain on, with the extensions up to `at` found
 abbrev pub onChain : List ℕ → ChainPlace → Parts → Header → ℕ → Room → IpNumber → ℕ → Reply
 onChain s place f h from p number at = onTurn s (withNet f (ipPart h from at (p .mark))) (chain6 place p (number .0)) p at (Ip number)
 
-pub record ExtsDone (s : List ℕ) (begin : IpNumber) (from end : ℕ) (source : RoomSource) (marked : Bool) (x : ExtsFound) : Type 0 where
-  pub left : (f : Parts) (h : Header) (t i : ℕ) → onChain s Directly f h from (netRoom Ipv6 end t i source marked) begin from
-      ≡ onTransport s (withNet f (ipPart h from (x .at) (x .mark))) (netRoom Ipv6 end t i source (x .mark)) (x .number) (x .at)
+pub record ExtsDone (s : List ℕ) (k : Kind) (begin : IpNumber) (from end : ℕ) (source : RoomSource) (marked : Bool) (x : ExtsFound) : Type 0 where
+  pub left : (f : Parts) (h : Header) (t i : ℕ) → onFirst s k f h from (netRoom k end t i source marked) begin
+      ≡ onTransport s (withNet f (ipPart h from (x .at) (x .mark))) (netRoom k end t i source (x .mark)) (x .number) (x .at)
   pub headed : from ≤ x .at
   pub inside : x .at ≤ end
 
-abbrev pub Extended : List ℕ → IpNumber → (from end : ℕ) → RoomSource → Bool → Ends ExtsFound → Type 0
-Extended s begin from end source marked =
-    Went (ExtsDone s begin from end source marked)
-    (λ r. (f : Parts) (h : Header) (t i : ℕ) → onChain s Directly f h from (netRoom Ipv6 end t i source marked) begin from ≡ refusedBy r)
+abbrev pub Extended : List ℕ → Kind → IpNumber → (from end : ℕ) → RoomSource → Bool → Ends ExtsFound → Type 0
+Extended s k begin from end source marked =
+    Went (ExtsDone s k begin from end source marked)
+    (λ r. (f : Parts) (h : Header) (t i : ℕ) → onFirst s k f h from (netRoom k end t i source marked) begin ≡ refusedBy r)
 
 -- ---- the transport leg: whatever IP header it stands behind (k), whatever was found before (f)
 

@@ -1,10 +1,11 @@
-// The net leg: an IPv4 header with its AUTH, or an IPv6 header with its extensions, up to the number that ends them. Each walker takes
-// the room that its header stands in.
+// The net leg: an IPv4 header with its AUTH, or an IPv6 header with its extensions, up to the number that ends them. It takes the
+// room that its header stands in.
 ghost use Prim.Native.Nat.{_≤_};
 ghost use lib.ListN.{length};
 ghost use Rattle.rules.specs.declared.kind.Kind.the-variants as K;
+ghost use Rattle.one_header.specs.At.{ipAtOnPaper};
 ghost use Rattle.one_header.specs.Turns.{ipKindOf};
-ghost use Rattle.slicer.specs.Legs.{Netted, netLegOnPaper, Extended, extsLegOnPaper};
+ghost use Rattle.slicer.specs.Legs.{IpAnswer, Netted, netLegOnPaper, Extended, extsLegOnPaper};
 use one_header::ExtAt;
 use one_header::ExtKind;
 use one_header::ExtTurn;
@@ -38,59 +39,6 @@ pub enum NetLeg {
     Refused(Refusal),
 }
 
-fn walk_ipv4(s: &[u8], at: usize, end: usize, source: RoomSource) -> NetLeg
-    requires { ⌜ (at ≤ end) × (end ≤ length (now s)) ⌝ }
-    ensures { λ r. ⌜ Netted (now (s .entry)) K.Ipv4 at end source (netLegOnPaper r) ⌝ }
-{
-    let read = ipv4_at(&s[at..end], at, source);
-    match read {
-        IpAt::Refused(refusal) => {
-            return NetLeg::Refused(refusal);
-        }
-        IpAt::Whole(x) => {
-            let next = at + x.len;
-            let inner = at + x.end;
-            let sets = x.source;
-            let number = x.names;
-            let fragment = x.fragment;
-            let mark = fragment.marks(false);
-            if !opens_auth(number) {
-                return NetLeg::Open(NetFound {
-                    begin: at,
-                    len: x.len,
-                    at: next,
-                    end: inner,
-                    number,
-                    kind: Kind::Ipv4,
-                    source: sets,
-                    mark,
-                });
-            }
-            let auth = ext_at(&s[next..inner], ExtKind::Auth, next, sets);
-            match auth {
-                ExtAt::Refused(refusal) => {
-                    return NetLeg::Refused(refusal);
-                }
-                ExtAt::Whole(a) => {
-                    let behind = next + a.len;
-                    let named = a.names;
-                    let told = a.fragment;
-                    return NetLeg::Open(NetFound {
-                        begin: at,
-                        len: x.len,
-                        at: behind,
-                        end: inner,
-                        number: named,
-                        kind: Kind::Ipv4,
-                        source: sets,
-                        mark: told.marks(mark),
-                    });
-                }
-            }
-        }
-    }
-}
-
 // Where an extension chain ends.
 pub struct ExtsFound {
     pub at: usize,
@@ -103,6 +51,43 @@ pub enum ExtsLeg {
     Refused(Refusal),
 }
 
+// IPv4 opens AUTH at most, and once.
+fn walk_auth(
+    s: &[u8],
+    begin: IpNumber,
+    from: usize,
+    end: usize,
+    source: RoomSource,
+    marked: bool,
+) -> ExtsLeg
+    requires { ⌜ (from ≤ end) × (end ≤ length (now s)) ⌝ }
+    ensures { λ r. ⌜ Extended (now (s .entry)) K.Ipv4 begin from end source marked (extsLegOnPaper r) ⌝ }
+{
+    if !opens_auth(begin) {
+        return ExtsLeg::Open(ExtsFound {
+            at: from,
+            number: begin,
+            mark: marked,
+        });
+    }
+    let read = ext_at(&s[from..end], ExtKind::Auth, from, source);
+    match read {
+        ExtAt::Refused(refusal) => {
+            return ExtsLeg::Refused(refusal);
+        }
+        ExtAt::Whole(x) => {
+            let fragment = x.fragment;
+            let number = x.names;
+            let at = from + x.len;
+            return ExtsLeg::Open(ExtsFound {
+                at,
+                number,
+                mark: fragment.marks(marked),
+            });
+        }
+    }
+}
+
 // A loop, so that the stack does not grow with the chain.
 fn walk_exts(
     s: &[u8],
@@ -113,7 +98,7 @@ fn walk_exts(
     marked: bool,
 ) -> ExtsLeg
     requires { ⌜ (from ≤ end) × (end ≤ length (now s)) ⌝ }
-    ensures { λ r. ⌜ Extended (now (s .entry)) begin from end source marked (extsLegOnPaper r) ⌝ }
+    ensures { λ r. ⌜ Extended (now (s .entry)) K.Ipv6 begin from end source marked (extsLegOnPaper r) ⌝ }
 {
     let mut number = begin;
     let mut at = from;
@@ -147,11 +132,39 @@ fn walk_exts(
     }
 }
 
-fn walk_ipv6(s: &[u8], at: usize, end: usize, source: RoomSource) -> NetLeg
-    requires { ⌜ (at ≤ end) × (end ≤ length (now s)) ⌝ }
-    ensures { λ r. ⌜ Netted (now (s .entry)) K.Ipv6 at end source (netLegOnPaper r) ⌝ }
+// The extensions of an IP header of a version, from the number that it names on.
+fn walk_chain(
+    s: &[u8],
+    kind: IpKind,
+    begin: IpNumber,
+    from: usize,
+    end: usize,
+    source: RoomSource,
+    marked: bool,
+) -> ExtsLeg
+    requires { ⌜ (from ≤ end) × (end ≤ length (now s)) ⌝ }
+    ensures { λ r. ⌜ Extended (now (s .entry)) (ipKindOf kind) begin from end source marked (extsLegOnPaper r) ⌝ }
 {
-    let read = ipv6_at(&s[at..end], at, source);
+    match kind {
+        IpKind::Ipv4 => walk_auth(s, begin, from, end, source, marked),
+        IpKind::Ipv6 => walk_exts(s, begin, from, end, source, marked),
+    }
+}
+
+fn ip_at(w: &[u8], kind: IpKind, at: usize, source: RoomSource) -> IpAt
+    ensures { λ r. ⌜ IpAnswer (now (w .entry)) kind at source (ipAtOnPaper r) ⌝ }
+{
+    match kind {
+        IpKind::Ipv4 => ipv4_at(w, at, source),
+        IpKind::Ipv6 => ipv6_at(w, at, source),
+    }
+}
+
+pub fn walk_net(s: &[u8], kind: IpKind, at: usize, end: usize, source: RoomSource) -> NetLeg
+    requires { ⌜ (at ≤ end) × (end ≤ length (now s)) ⌝ }
+    ensures { λ r. ⌜ Netted (now (s .entry)) (ipKindOf kind) at end source (netLegOnPaper r) ⌝ }
+{
+    let read = ip_at(&s[at..end], kind, at, source);
     match read {
         IpAt::Refused(refusal) => {
             return NetLeg::Refused(refusal);
@@ -163,7 +176,7 @@ fn walk_ipv6(s: &[u8], at: usize, end: usize, source: RoomSource) -> NetLeg
             let begin = x.names;
             let fragment = x.fragment;
             let mark = fragment.marks(false);
-            let leg = walk_exts(s, begin, from, inner, sets, mark);
+            let leg = walk_chain(s, kind, begin, from, inner, sets, mark);
             match leg {
                 ExtsLeg::Refused(refusal) => {
                     return NetLeg::Refused(refusal);
@@ -171,28 +184,17 @@ fn walk_ipv6(s: &[u8], at: usize, end: usize, source: RoomSource) -> NetLeg
                 ExtsLeg::Open(found) => {
                     let number = found.number;
                     return NetLeg::Open(NetFound {
+                        kind: kind.kind(),
                         begin: at,
                         len: x.len,
                         at: found.at,
                         end: inner,
-                        number,
-                        kind: Kind::Ipv6,
                         source: sets,
+                        number,
                         mark: found.mark,
                     });
                 }
             }
         }
-    }
-}
-
-// Both versions come back at one place, so that what stands behind them is code once.
-pub fn walk_net(s: &[u8], kind: IpKind, at: usize, end: usize, source: RoomSource) -> NetLeg
-    requires { ⌜ (at ≤ end) × (end ≤ length (now s)) ⌝ }
-    ensures { λ r. ⌜ Netted (now (s .entry)) (ipKindOf kind) at end source (netLegOnPaper r) ⌝ }
-{
-    match kind {
-        IpKind::Ipv4 => walk_ipv4(s, at, end, source),
-        IpKind::Ipv6 => walk_ipv6(s, at, end, source),
     }
 }
