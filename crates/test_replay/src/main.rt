@@ -1,27 +1,29 @@
 // Reads a list of frames, each with the answer that another slicer gave, and compares that answer with the text printed here. The list
 // on standard input is made by compare/replay: a case is the entry's number, the frame's length in two bytes and the frame, the answer's
 // length in two bytes and the answer.
-ghost use mathlib.Core.Path.{_≡_};
-ghost use Prim.Native.Nat.{_≤_};
-ghost use lib.ListN.{length};
 use rules::Entry;
 
-// A list that fills the buffer may go on behind it, and then it is not compared whole.
-const MOST: usize = 262_144;
+// So many cases are compared; where the list goes on, that is told.
+const MOST: usize = 65_536;
 
-// What stands at the head of a list: a case of so many bytes, or, where the size is 0, the begin of one.
-struct Case {
-    size: usize,
-    same: bool,
+// A frame and an answer have at most so many bytes: those of `io::buffer`.
+const ROOM: usize = 4096;
+
+// What comes next on standard input: a case, whose answer is the same or differs; the list's end; or the begin of a case, not whole.
+enum Next {
+    Compared(bool),
+    End,
+    Cut,
 }
 
 // What was seen of a list. `cut` says that the last case is not whole; `first` is the number of the first case that differs, from 1, and 0
-// where none does.
+// where none does; `on` says that the list was not read to its end.
 struct Seen {
     compared: usize,
     same: usize,
     first: usize,
     cut: bool,
+    on: bool,
 }
 
 // A call, because an argument of type u8 is known to be below 256.
@@ -39,62 +41,80 @@ fn same_at(number: u8, frame: &[u8], answer: &[u8]) -> bool {
     }
 }
 
-fn cut() -> Case
-    ensures { λ r. ⌜ r .size ≤ 0 ⌝ }
-{
-    Case {
-        size: 0,
-        same: false,
+// Reads n bytes, as many as a length says, and says whether all were there.
+fn whole(room: &mut [u8], n: usize) -> bool {
+    if room.len() < n {
+        return false;
     }
+    let from: usize = 0;
+    io::read_full(0, &mut room[from..n]) == n
 }
 
-// Every test is on what is left, so no sum runs past the list.
-fn case_at(rest: &[u8]) -> Case
-    ensures { λ r. ⌜ r .size ≤ length (now (rest .entry)) ⌝ }
-{
-    if rest.len() < 3 {
-        return cut();
+// Reads a case and compares it: no list is ever held as a whole, so the program needs little room.
+fn next_case() -> Next {
+    let mut frame = io::buffer();
+    let mut answer = io::buffer();
+    if !whole(&mut frame, 1) {
+        return Next::End;
     }
-    let number = rest[0];
-    let frame_len = word_of(rest[1], rest[2]);
-    if rest.len() - 3 < frame_len {
-        return cut();
+    let number = frame[0];
+    if !whole(&mut frame, 2) {
+        return Next::Cut;
     }
-    let to = 3 + frame_len;
-    if rest.len() - to < 2 {
-        return cut();
+    let frame_len = word_of(frame[0], frame[1]);
+    if !whole(&mut frame, frame_len) {
+        return Next::Cut;
     }
-    let answer_len = word_of(rest[to], rest[to + 1]);
-    let from = to + 2;
-    if rest.len() - from < answer_len {
-        return cut();
+    if !whole(&mut answer, 2) {
+        return Next::Cut;
     }
-    let size = from + answer_len;
-    let same = same_at(number, &rest[3..to], &rest[from..size]);
-    Case { size, same }
+    let answer_len = word_of(answer[0], answer[1]);
+    if !whole(&mut answer, answer_len) {
+        return Next::Cut;
+    }
+    if ROOM < frame_len {
+        return Next::Cut;
+    }
+    if ROOM < answer_len {
+        return Next::Cut;
+    }
+    let from: usize = 0;
+    Next::Compared(same_at(number, &frame[from..frame_len], &answer[from..answer_len]))
 }
 
-fn compare(list: &[u8]) -> Seen {
+fn compare() -> Seen {
     let mut compared: usize = 0;
     let mut same: usize = 0;
     let mut first: usize = 0;
-    let mut at: usize = 0;
-    while at < list.len() {
-        let case = case_at(&list[at..]);
-        if case.size == 0 {
-            return Seen {
-                compared,
-                same,
-                first,
-                cut: true,
-            };
-        }
-        at += case.size;
-        compared += 1;
-        if case.same {
-            same += 1;
-        } else if first == 0 {
-            first = compared;
+    while compared < MOST {
+        let next = next_case();
+        match next {
+            Next::End => {
+                return Seen {
+                    compared,
+                    same,
+                    first,
+                    cut: false,
+                    on: false,
+                };
+            }
+            Next::Cut => {
+                return Seen {
+                    compared,
+                    same,
+                    first,
+                    cut: true,
+                    on: false,
+                };
+            }
+            Next::Compared(agrees) => {
+                compared += 1;
+                if agrees {
+                    same += 1;
+                } else if first == 0 {
+                    first = compared;
+                }
+            }
         }
     }
     Seen {
@@ -102,6 +122,7 @@ fn compare(list: &[u8]) -> Seen {
         same,
         first,
         cut: false,
+        on: true,
     }
 }
 
@@ -122,23 +143,13 @@ fn report(seen: Seen) {
     }
     if seen.cut {
         io::write_all(1, b"the list is cut: a case follows that is not whole\n");
+    } else if seen.on {
+        io::write_all(1, b"the list may go on\n");
     } else {
         io::write_all(1, b"the list is whole\n");
     }
 }
 
-// A call, because main's proof would carry the whole array along.
-fn room() -> [u8; MOST]
-    ensures { λ r. ⌜ 262_144 ≡ length r ⌝ }
-{
-    [0; MOST]
-}
-
 fn main() {
-    let mut list = room();
-    let n = io::read_full(0, &mut list);
-    report(compare(&list[..n]));
-    if n == MOST {
-        io::write_all(1, b"the list fills the buffer, and may go on\n");
-    }
+    report(compare());
 }

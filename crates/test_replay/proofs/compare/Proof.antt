@@ -1,36 +1,35 @@
 -- `compare` meets its contract. Assumes nothing.
 use Prim.Native.Nat.{_-_, _≤_}
-use lib.ListN.{length}
 use borrow.Author.Needs.{needs}
 use Rattle.test_replay.proofs.compare.Statement.{statement}
 use Rattle.test_replay.proofs.compare.Tie as tie
 
 abbrev Inv-loop : tie.InvT-loop
-Inv-loop list compared₀ same₀ first₀ at₀ compared same first at = (at ≤ length list) × (compared ≤ at) × (same ≤ compared)
+Inv-loop compared₀ same₀ first₀ compared same first = (compared ≤ 65536) × (same ≤ compared)
 
 abbrev μ-loop : tie.MeasureT-loop
-μ-loop list compared₀ same₀ first₀ at₀ compared same first at = length list - at
+μ-loop compared₀ same₀ first₀ compared same first = 65536 - compared
 
 loop-holds : tie.Need-loop-holds Inv-loop μ-loop
 loop-holds c = search needs
 
-sub-case-at : tie.Need-sub-case-at Inv-loop μ-loop
-sub-case-at c = search needs
+next-case-requires : tie.Need-next-case-requires Inv-loop μ-loop
+next-case-requires c κs = search needs
 
-part-case-at-start : tie.Need-part-case-at-start Inv-loop μ-loop
-part-case-at-start c = search needs
-
-part-case-at-end : tie.Need-part-case-at-end Inv-loop μ-loop
-part-case-at-end c = search needs
-
-case-at-requires : tie.Need-case-at-requires Inv-loop μ-loop
-case-at-requires c κs = search needs
+enum-told : tie.Need-enum-told Inv-loop μ-loop
+enum-told c = search needs
 
 returns : tie.Need-returns Inv-loop μ-loop
 returns c = search needs
 
-add-at : tie.Need-add-at Inv-loop μ-loop
-add-at c = search needs
+enum-told-2 : tie.Need-enum-told-2 Inv-loop μ-loop
+enum-told-2 c = search needs
+
+returns-2 : tie.Need-returns-2 Inv-loop μ-loop
+returns-2 c = search needs
+
+enum-known-next : tie.Need-enum-known-next Inv-loop μ-loop
+enum-known-next c = search needs
 
 add-compared : tie.Need-add-compared Inv-loop μ-loop
 add-compared c = search needs
@@ -56,8 +55,8 @@ loop-less-3 c = search needs
 loop-again-3 : tie.Need-loop-again-3 Inv-loop μ-loop
 loop-again-3 c = search needs
 
-returns-2 : tie.Need-returns-2 Inv-loop μ-loop
-returns-2 c = search needs
+returns-3 : tie.Need-returns-3 Inv-loop μ-loop
+returns-3 c = search needs
 
 pub compare-spec : {M : Type 1} → statement M
 compare-spec =
@@ -66,12 +65,12 @@ compare-spec =
     Inv-loop
     μ-loop
     loop-holds
-    sub-case-at
-    part-case-at-start
-    part-case-at-end
-    case-at-requires
+    next-case-requires
+    enum-told
     returns
-    add-at
+    enum-told-2
+    returns-2
+    enum-known-next
     add-compared
     add-same
     loop-less
@@ -80,4 +79,4 @@ compare-spec =
     loop-again-2
     loop-less-3
     loop-again-3
-    returns-2)
+    returns-3)
