@@ -1,6 +1,6 @@
 -- The text of every frame of at most `frameLimit` bytes fits a buffer of `textLimit` bytes.
 use Prim.Native.Nat.{ℕ, zero, suc, _+_, _-_, _*_, _≤_}
-use mathlib.Core.Path.{_≡_, refl}
+use mathlib.Core.Path.{_≡_, refl, ap}
 use mathlib.Core.List.{List, _++_, append-assoc}
 use native.Mathlib.Omega.{arith}
 use lib.ListN.{length, take, drop, length-append}
@@ -10,21 +10,19 @@ use Rattle.rules.specs.declared.entry.Entry.the-variants as E
 use Rattle.rules.specs.declared.place.Place.{Place}
 use Rattle.rules.specs.declared.refusal.Row.{Row}
 use Rattle.rules.specs.Bytes.{byteAt}
-use Rattle.rules.specs.Named.{kindNumber}
-use Rattle.rules.specs.Place.{Follow, next, halt, wrong, PlaceRead, reads, refuses, read, opening}
+use Rattle.rules.specs.Place.{Found, Follow, next, halt, wrong, PlaceRead, reads, refuses, read, opening}
 use Rattle.rules.specs.Walk.{Trace, accepted, refused, unfinished, HeaderAt, headerAt, behind, onwardBy, step, walk, trace, onward, slices}
-use Rattle.laws.specs.Reads.{goes}
+use Rattle.laws.specs.Reads.{goes, parts}
 use Rattle.laws.specs.Openings.{opening-begins, never-halts}
 use Rattle.printing.specs.Clash.{clash}
 use Rattle.printing.specs.Text.{lineOf, headerLines, endingLines, text, textOf}
 use Rattle.printing.specs.Put.{put, reach}
-use Rattle.printing.specs.Sizes.{SmallRow, header-short, ending-short, refused-short}
+use Rattle.printing.specs.Sizes.{SmallRow, ending-short, refused-short}
 use Rattle.printing.specs.Values.{frameLimit, Bytes, SmallFollow, refuses-small, SmallFound, reads-small}
 
--- Every header has four bytes at least, and its line 24 at most: that is six for each byte of the room. The two lines of an ending and
--- the line of the header before it are shorter than a refusal's line.
+-- A header's line has at most four bytes for each byte of the header. The two lines of an ending are shorter than a refusal's line.
 abbrev pub room-limit : ℕ → ℕ
-room-limit n = 67 + 6 * n
+room-limit n = 67 + 4 * n
 
 -- a header's line adds to a text what it has, or nothing
 behind-text : (h : HeaderAt) (t : Trace HeaderAt) → length (text (behind h t)) ≤ length (lineOf h) + length (text t)
@@ -44,18 +42,18 @@ module _ (s : List ℕ) (b : Bytes (byteAt s)) where
     step-fits (refuses r) e = let z = refused-short (refuses-small s p b inside small e) in omega arith
     step-fits (reads x) e =
         let f = reads-small s p b inside small e in
-        let l = header-short (kindNumber (p .kind)) {offset = p .at} {len = x .len} (omega arith) (omega (arith, f .len)) in
         let z = behind-text (headerAt p x) (onwardBy go (x .follow)) in
         let y = onward-fits (x .follow) refl f (f .follow) in
-        omega (arith, l, z, y)
+        omega (arith, f .line, z, y)
       where
-        onward-fits : (f : Follow) → x .follow ≡ f → SmallFound p x → SmallFollow f → 24 + length (text (onwardBy go f)) ≤ room-limit (p .room .end - p .at)
+        onward-fits : (f : Follow) → x .follow ≡ f → SmallFound p x → SmallFollow f → 4 * x .len + length (text (onwardBy go f)) ≤ room-limit (p .room .end - p .at)
         onward-fits (next q) j w h =
             let a = goes s p e j in
             let z = fits q (a .room) (omega (arith, a .inside)) in
-            omega (arith, z, a .begins, a .some, a .room, a .inside)
-        onward-fits (halt y) j w h = let z = ending-short h in omega (arith, z)
-        onward-fits (wrong r) j w h = let z = refused-short h in omega (arith, z, w .some, w .len)
+            let l = ap (λ (y : Found). y .len) (parts s p e .found) in
+            omega (arith, z, l, a .begins, a .room, a .inside)
+        onward-fits (halt y) j w h = let z = ending-short h in omega (arith, z, w .len)
+        onward-fits (wrong r) j w h = let z = refused-short h in omega (arith, z, w .len)
 
   walk-fits : (n : ℕ) → Fits (walk n s)
   unfolding walk text
@@ -69,7 +67,7 @@ opening-small E.Ethernet s q = clash (cc)
 opening-small E.Ipv4 s q = clash (cc)
 opening-small E.Ipv6 s q = clash (cc)
 
--- 393,283
+-- 262,211
 abbrev pub textLimit : ℕ
 textLimit = room-limit frameLimit
 

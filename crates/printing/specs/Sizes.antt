@@ -79,6 +79,12 @@ unfolding headerLine
 header-short kind {offset} {len} x y =
     line-short (nameOf kind) (decimal offset ∷ decimal len ∷ []) 11 (5 ∷ 5 ∷ []) (name-short kind .short) (small-short x, (small-short y, tt))
 
+-- the line of a tag
+pub tag-short : {offset : ℕ} → Small offset → length (headerLine 2 offset 4) ≤ 13
+unfolding headerLine
+tag-short {offset} x =
+    line-short (nameOf 2) (decimal offset ∷ decimal 4 ∷ []) 4 (5 ∷ 1 ∷ []) (omega arith) (small-short x, (decimal-short 0 4 (omega arith), tt))
+
 -- an ending whose numbers are short
 pub record SmallEnding (x : Stopped) : Type 0 where
   pub at : Small (x .at)

@@ -1,5 +1,5 @@
 -- Every number that is printed of a frame of at most `frameLimit` bytes has at most five digits.
-use Prim.Native.Nat.{ℕ, _+_, _-_, _≤_, _<_}
+use Prim.Native.Nat.{ℕ, _+_, _-_, _*_, _≤_, _<_}
 use mathlib.Core.Path.{_≡_, refl, sym, subst}
 use mathlib.Core.List.{List, [], _∷_}
 use mathlib.Core.Bool.{Bool, true, false}
@@ -22,14 +22,15 @@ use Rattle.rules.specs.declared.turn.Turn.{Turn}
 use Rattle.rules.specs.declared.turn.Turn.the-variants.{Opens, Stops, LateHopByHop}
 use Rattle.rules.specs.Bytes.{byteAt, number, part}
 use Rattle.rules.specs.Numbers.{hopByHopNotAtStart}
-use Rattle.rules.specs.Named.{stopNumber}
+use Rattle.rules.specs.Named.{kindNumber, stopNumber}
 use Rattle.rules.specs.Test.{pick, Test, passes, Failure, short, other, failure, Verdict, whole, failed, judge, placed}
 use Rattle.rules.specs.Rules.{isOneOf, deciding, lengthOf, payloadOf, seenBy, testsBy, tests}
 use Rattle.rules.specs.Place.{leaves, Follow, next, halt, wrong, follow, followOf, Found, reads, refuses, settle, bytes, outcome, read}
-use Rattle.laws.specs.Kinds.{sized, nested}
+use Rattle.laws.specs.Kinds.{Sized, sized, nested}
 use Rattle.laws.specs.Reads.{parts}
 use Rattle.printing.specs.Clash.{clash}
-use Rattle.printing.specs.Sizes.{Small, SmallEnding, SmallRow}
+use Rattle.printing.specs.Sizes.{Small, SmallEnding, SmallRow, header-short, tag-short}
+use Rattle.printing.specs.Text.{headerLine}
 
 -- the bytes that a frame may have
 abbrev pub frameLimit : ℕ
@@ -141,9 +142,25 @@ payload-small Tcp g at p b h = omega arith
 
 -- ---- one header read, in a room that ends within a frame's limit
 
--- a whole header at p: its length, and what follows
+-- a header's line has at most four bytes for each byte of the header: a tag's line has 13, any other header 8 bytes at least
+line-by : (k : Kind) (g : ℕ → ℕ) {at have : ℕ} → Small at → Small (lengthOf k g) → Sized k g have
+    → length (headerLine (kindNumber k) at (lengthOf k g)) ≤ 4 * lengthOf k g
+unfolding lengthOf
+line-by Ethernet2 g a l z = let y = header-short 1 a l in omega (arith, y, z .long)
+line-by Vlan g a l z = let y = tag-short a in omega (arith, y)
+line-by Ipv4 g a l z = let y = header-short 3 a l in omega (arith, y, z .long)
+line-by Ipv6 g a l z = let y = header-short 4 a l in omega (arith, y, z .long)
+line-by HopByHop g a l z = let y = header-short 5 a l in omega (arith, y, z .long)
+line-by Routing g a l z = let y = header-short 6 a l in omega (arith, y, z .long)
+line-by Destination g a l z = let y = header-short 7 a l in omega (arith, y, z .long)
+line-by Fragment g a l z = let y = header-short 8 a l in omega (arith, y, z .long)
+line-by Auth g a l z = let y = header-short 9 a l in omega (arith, y, z .long)
+line-by Udp g a l z = let y = header-short 10 a l in omega (arith, y, z .long)
+line-by Tcp g a l z = let y = header-short 11 a l in omega (arith, y, z .long)
+
+-- a whole header at p: its line, its length, and what follows
 pub record SmallFound (p : Place) (x : Found) : Type 0 where
-  pub some : 4 ≤ x .len
+  pub line : length (headerLine (kindNumber (p .kind)) (p .at) (x .len)) ≤ 4 * x .len
   pub len : x .len ≤ p .room .end - p .at
   pub follow : SmallFollow (x .follow)
 
@@ -169,4 +186,4 @@ module _ (s : List ℕ) (p : Place) (b : Bytes (byteAt s)) (inside : p .at ≤ p
       let l = leaves (p .kind) g (p .at) (p .room) in
       let to = payload-small (p .kind) g (p .at) l (bytes-bytes s p b) (omega (arith, n .inside)) in
       subst (SmallFound p) (sym (z .found))
-      (record { some = omega (arith, k .some, k .long); len = k .inside; follow = follow-small _ l _ _ (omega (arith, n .holds, n .inside)) to })
+      (record { line = line-by (p .kind) g (omega arith) (omega (arith, k .inside)) k; len = k .inside; follow = follow-small _ l _ _ (omega (arith, n .holds, n .inside)) to })

@@ -14,7 +14,7 @@ use rules::Entry;
 const ROOM: usize = 65537;
 
 // `textLimit`: the text of no frame has more bytes, by `text-fits` in printing's specs/Fits.antt.
-const TEXT: usize = 393283;
+const TEXT: usize = 262211;
 
 fn room() -> [u8; ROOM]
     ensures { λ r. ⌜ 65537 ≡ length r ⌝ }
