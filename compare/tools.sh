@@ -53,7 +53,7 @@ kit_tools() { echo "$(dirname "$(dirname "$(rt doc)")")/on/$(uname -m)/toolchain
 
 # Proves the crates of the library and writes the archive, which holds an object of each: compiled apart, so that the walk over the headers is
 # taken in by its one caller in either.
-library='collector numbered'
+library='exports exports_by_number'
 build_archive() {
     command -v rt >/dev/null || die "the Rattle kit's command rt is not on the path"
     mkdir -p target
@@ -61,7 +61,7 @@ build_archive() {
         rt staticlib $c >target/staticlib.log 2>&1 || die "the archive was not built: target/staticlib.log"
     done
     tools=$(kit_tools)
-    (cd $archive && "$tools/llvm-ar" x libnumbered.a && "$tools/llvm-ar" r libcollector.a numbered.o && rm numbered.o libnumbered.a)
+    (cd $archive && "$tools/llvm-ar" x libexports_by_number.a && "$tools/llvm-ar" r libexports.a exports_by_number.o && rm exports_by_number.o libexports_by_number.a)
 }
 
 # Compiles one crate with optimisation: its kind (lib or bin), its name, its root file, what to write, then rustc's further words.
@@ -105,6 +105,6 @@ X
                 /^}/ { returns = 0 }
                 { print }' >"$to/arm.ll"
         "$tools/clang" --target=$arm -O3 -fPIC -ffunction-sections -c -x ir "$to/arm.ll" -o "$to/$c.o"
-        "$tools/llvm-ar" rcs "$to/libcollector.a" "$to/$c.o"
+        "$tools/llvm-ar" rcs "$to/libexports.a" "$to/$c.o"
     done
 }

@@ -3,7 +3,7 @@
  * Any bytes of any length get an answer. No bytes lent are written, only the numbers lent to bhirkulom_headers, which must
  * not overlap the frame; no pointer is kept. A pointer must not be null, also where the length is 0, and the bytes behind it must not change during the call. The numbers are those of
  * document 01; a part that a frame doesn't have is all zeros. Proved are the answers of the functions; this header only
- * says again, for C, what crates/collector/src/handed.rt has.
+ * says again, for C, what crates/exports/src/handed.rt has.
  */
 #ifndef BHIRKULOM_H
 #define BHIRKULOM_H
@@ -124,9 +124,15 @@ struct bhirkulom_count_reply {
     struct bhirkulom_row refusal;
 };
 
-/* kind: the option's first byte; known: it is one of document 01's. number: the refusal; offset: that of its option. */
+/* The refusal of an option: its number, and the option's offset. */
+struct bhirkulom_option_row {
+    size_t number, offset;
+};
+
+/* kind: the option's first byte; known: it is one of document 01's. */
 struct bhirkulom_option_reply {
-    size_t status, kind, at, len, number, offset;
+    size_t status, kind, at, len;
+    struct bhirkulom_option_row refusal;
     bool known;
 };
 

@@ -8,7 +8,7 @@ fn main() {
         Some(folder) => PathBuf::from(folder),
         None => PathBuf::from(env!("CARGO_MANIFEST_DIR")).join("../../target/staticlib"),
     };
-    let archive = folder.join("libcollector.a");
+    let archive = folder.join("libexports.a");
     println!("cargo:rerun-if-changed={}", archive.display());
     assert!(
         archive.exists(),
@@ -16,5 +16,5 @@ fn main() {
         archive.display()
     );
     println!("cargo:rustc-link-search=native={}", folder.display());
-    println!("cargo:rustc-link-lib=static=collector");
+    println!("cargo:rustc-link-lib=static=exports");
 }

@@ -88,9 +88,9 @@ static void options(void) {
     o = bhirkulom_option(bytes, 7, 1);
     check("option 1", o.status == BHIRKULOM_THERE && o.kind == 254 && o.at == 4 && o.len == 2 && !o.known);
     o = bhirkulom_option(bytes, 7, 9);
-    check("option 9", o.status == BHIRKULOM_REFUSED && o.number == BHIRKULOM_OPTION_NO_LENGTH_BYTE && o.offset == 6);
+    check("option 9", o.status == BHIRKULOM_REFUSED && o.refusal.number == BHIRKULOM_OPTION_NO_LENGTH_BYTE && o.refusal.offset == 6);
     o = bhirkulom_option(bytes, 6, 2);
-    check("no option 2", o.status == BHIRKULOM_NO_MORE && o.number == 0);
+    check("no option 2", o.status == BHIRKULOM_NO_MORE && o.refusal.number == 0);
 }
 
 /* F10 and F11. */

@@ -1,7 +1,7 @@
 //! The boundary to the proved library: its structs, its functions, and the only unsafe code of this crate.
 //!
-//! The structs are those of crates/collector/src/handed.rt. What each number is stands in
-//! crates/collector/specs/Handed.antt, which the contracts of the functions cite.
+//! The structs are those of crates/exports/src/handed.rt. What each number is stands in
+//! crates/exports/specs/Handed.antt, which the contracts of the functions cite.
 
 /// How many tags a packet has room for.
 pub const TAG_LIMIT: usize = 3;
@@ -76,13 +76,19 @@ pub struct CountReply {
 
 #[repr(C)]
 #[derive(Clone, Copy, Debug)]
+pub struct OptionRow {
+    pub number: usize,
+    pub offset: usize,
+}
+
+#[repr(C)]
+#[derive(Clone, Copy, Debug)]
 pub struct OptionReply {
     pub status: usize,
     pub kind: usize,
     pub at: usize,
     pub len: usize,
-    pub number: usize,
-    pub offset: usize,
+    pub refusal: OptionRow,
     pub known: bool,
 }
 

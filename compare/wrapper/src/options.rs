@@ -118,7 +118,7 @@ pub fn tcp_option(options: &[u8], k: usize) -> Result<Option<TcpOption<'_>>, Opt
             slice: &options[reply.at..reply.at + reply.len],
         })),
         NO_MORE => Ok(None),
-        REFUSED => Err(OptionRefusal::new(reply.number, reply.offset)),
+        REFUSED => Err(OptionRefusal::new(reply.refusal.number, reply.refusal.offset)),
         other => unreachable!("no option's answer has the status {other}"),
     }
 }

@@ -12,11 +12,11 @@ use borrow.Author.Tests.{ltb-true, ltb-false, eqb-true}
 use Rattle.rules.specs.declared.kind.Kind.{Kind}
 use Rattle.rules.specs.declared.kind.Kind.the-variants.{Ethernet2, Vlan, Ipv4, Ipv6, HopByHop, Routing, Destination, Fragment, Auth, Udp, Tcp}
 use Rattle.rules.specs.declared.place.Place.{Place}
-use Rattle.rules.specs.declared.place.Room.{Room}
 use Rattle.rules.specs.Bytes.{byteAt, part}
 use Rattle.rules.specs.Test.{pick}
 use Rattle.rules.specs.Rules.{isOneOf, deciding, leastLength, seenBy}
-use Rattle.rules.specs.Place.{bytes, room, place}
+use Rattle.rules.specs.Place.{bytes}
+use Rattle.laws.specs.Openings.{AgreeAt, endingAt}
 
 -- ---- parts of a list
 
@@ -36,13 +36,9 @@ part-is (suc a) (suc e) (x ∷ s) = ap (λ n. take n (drop a s)) (suc-sub-suc e 
 
 -- ---- frames that agree
 
--- on the first m bytes
+-- on the first m bytes. (AgreeAt of crate laws: on the deciding bytes of the header at a place)
 abbrev pub AgreeTo : ℕ → List ℕ → List ℕ → Type 0
 AgreeTo m s t = take m s ≡ take m t
-
--- on the deciding bytes of the header at p, as far as they are there
-abbrev pub AgreeAt : List ℕ → List ℕ → Place → Type 0
-AgreeAt s t p = (i : ℕ) → isOneOf i (deciding (p .kind)) ≡ true → p .at + i < p .room .end → byteAt s (p .at + i) ≡ byteAt t (p .at + i)
 
 -- ---- then they show the same
 
@@ -63,19 +59,15 @@ same-deciding s t p h = fun-ext (λ i. go i (isOneOf i (deciding (p .kind))) ref
     go : (i : ℕ) (b : Bool) → isOneOf i (deciding (p .kind)) ≡ b → (c : Bool) → ltb (p .at + i) (p .room .end) ≡ c → bytes s p i ≡ bytes t p i
     go i true e true q =
         let l = ltb-true _ _ q in
-        ap (λ (x : ℕ). pick (isOneOf i (deciding (p .kind))) x 0) (part-in s (p .at) (p .room .end) i l ∙ h i e l ∙ sym (part-in t (p .at) (p .room .end) i l))
+        ap (λ (x : ℕ). pick (isOneOf i (deciding (p .kind))) x 0)
+        (part-in s (p .at) (p .room .end) i l ∙ h i e l ∙ sym (part-in t (p .at) (p .room .end) i l))
     go i true e false q =
         let l = ltb-false _ _ q in
-        ap (λ (x : ℕ). pick (isOneOf i (deciding (p .kind))) x 0) (part-out s (p .at) (p .room .end) i l ∙ sym (part-out t (p .at) (p .room .end) i l))
+        ap (λ (x : ℕ). pick (isOneOf i (deciding (p .kind))) x 0)
+        (part-out s (p .at) (p .room .end) i l ∙ sym (part-out t (p .at) (p .room .end) i l))
     go i false e c q = rw e
 
 -- ---- the same header in a room that ends elsewhere
-
-abbrev pub ending : Room → ℕ → Room
-ending p e = room e (p .tags) (p .version) (p .ips) (p .source) (p .mark)
-
-abbrev pub endingAt : Place → ℕ → Place
-endingAt p e = place (p .kind) (p .at) (ending (p .room) e)
 
 all-below : ℕ → List ℕ → Bool
 all-below n [] = true
@@ -91,22 +83,42 @@ below n i (m ∷ ms) a h = go (ltb m n) refl (eqb i m) refl (below n i ms)
     go true p false q rec = rec (cc) (cc)
     go false p c q rec = let z : _≡_ {A = ℕ} 0 1 = cc in absurd (omega arith)
 
+early : (k : Kind) → all-below (leastLength k) (deciding k) ≡ true
+unfolding all-below
+early Ethernet2 = refl
+early Vlan = refl
+early Ipv4 = refl
+early Ipv6 = refl
+early HopByHop = refl
+early Routing = refl
+early Destination = refl
+early Fragment = refl
+early Auth = refl
+early Udp = refl
+early Tcp = refl
+
 -- every deciding byte lies in the least length of its kind
 decide-early : (k : Kind) (i : ℕ) → isOneOf i (deciding k) ≡ true → i < leastLength k
-unfolding all-below
-decide-early k i h = below (leastLength k) i (deciding k) (elim k [ Ethernet2 ↦ refl | Vlan ↦ refl | Ipv4 ↦ refl | Ipv6 ↦ refl | HopByHop ↦ refl | Routing ↦ refl | Destination ↦ refl | Fragment ↦ refl | Auth ↦ refl | Udp ↦ refl | Tcp ↦ refl ]) h
+decide-early k i h = below (leastLength k) i (deciding k) (early k) h
+
+agree-byte : (m : ℕ) (s t : List ℕ) (i : ℕ) → AgreeTo m s t → i < m → byteAt s i ≡ byteAt t i
+agree-byte m s t i q h = sym (getD-take m s i 0 h) ∙ ap (λ (l : List ℕ). getD l i 0) q ∙ getD-take m t i 0 h
+
+-- frames that agree on the header's least length agree on its deciding bytes
+pub agree-early : (s t : List ℕ) (p : Place) (m : ℕ) → p .at + leastLength (p .kind) ≤ m → AgreeTo m s t → AgreeAt s t p
+agree-early s t p m a q i h l = let j = decide-early (p .kind) i h in agree-byte m s t (p .at + i) q (omega arith)
 
 -- both rooms hold the header's least length, and the frames agree on it
-pub same-ending : (s t : List ℕ) (p : Place) (e m : ℕ) → p .at + leastLength (p .kind) ≤ m → m ≤ p .room .end → m ≤ e → AgreeTo m s t → bytes s p ≡ bytes t (endingAt p e)
+pub same-ending : (s t : List ℕ) (p : Place) (e m : ℕ) → p .at + leastLength (p .kind) ≤ m → m ≤ p .room .end → m ≤ e → AgreeTo m s t
+    → bytes s p ≡ bytes t (endingAt p e)
 unfolding bytes seenBy
 same-ending s t p e m a b c q = fun-ext (λ i. go i (isOneOf i (deciding (p .kind))) refl)
   where
     go : (i : ℕ) (d : Bool) → isOneOf i (deciding (p .kind)) ≡ d → bytes s p i ≡ bytes t (endingAt p e) i
     go i true h =
         let l = decide-early (p .kind) i h in
-        let j : p .at + i < m = omega arith in
         ap (λ (x : ℕ). pick (isOneOf i (deciding (p .kind))) x 0)
         (part-in s (p .at) (p .room .end) i (omega arith)
-        ∙ sym (getD-take m s (p .at + i) 0 j) ∙ ap (λ (l : List ℕ). getD l (p .at + i) 0) q ∙ getD-take m t (p .at + i) 0 j
+        ∙ agree-early s t p m a q i h (omega arith)
         ∙ sym (part-in t (p .at) e i (omega arith)))
     go i false h = rw h

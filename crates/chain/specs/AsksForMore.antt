@@ -15,10 +15,11 @@ use Rattle.rules.specs.declared.refusal.Row.{Row}
 use Rattle.rules.specs.Numbers.{tooShort}
 use Rattle.rules.specs.Test.{Test, fits, least, same, Failure, short, other, placed}
 use Rattle.rules.specs.Rules.{tests, testsBy}
-use Rattle.rules.specs.Place.{bytes}
-use Rattle.rules.specs.Walk.{Entry}
-use Rattle.rules.specs.declared.entry.Entry.{Entry as Given}
-use Rattle.chain.specs.Broken.{FirstFailed, this, later, Broken, fails, late-hop, more}
+use Rattle.rules.specs.Place.{Follow, bytes, opening}
+use Rattle.rules.specs.Walk.{HeaderAt}
+use Rattle.rules.specs.declared.entry.Entry.{Entry}
+use Rattle.laws.specs.Openings.{Asks, opening-asks}
+use Rattle.chain.specs.Broken.{FirstFailed, this, later, Broken, fails, late-hop, more, BrokenFrom, opened, unopened, BrokenOf}
 use Rattle.chain.specs.Refused.{RefusedForAReason}
 
 -- refusal 1 is a failed length test and no other: a test that is none carries another number
@@ -64,12 +65,8 @@ sound a (this {t = least x y f} h) = not-short f (a .0)
 sound a (this {t = same x y f} h) = not-short f (a .0)
 sound a (later h b) = sound (a .1) b
 
--- of a row: its values are then required and have, in this order
-pub Asks : Row → Type 0
-Asks r = (required have source : ℕ) → r .number ≡ tooShort → r .values ≡ required ∷ have ∷ source ∷ [] → have < required
-
+-- of a row (Asks of crate laws): its values are then required and have, in this order
 asks : (f : Failure) (at : ℕ) (room : RoomSource) → Sound f → Asks (placed f at room)
-unfolding Asks
 asks (short layer a b bound) at room h required have source n v = omega (arith, h, first v, second v)
   where
     first : {x y z x′ y′ z′ : ℕ} → _≡_ {A = List ℕ} (x ∷ y ∷ z ∷ []) (x′ ∷ y′ ∷ z′ ∷ []) → x ≡ x′
@@ -79,16 +76,25 @@ asks (short layer a b bound) at room h required have source n v = omega (arith, 
     second e = cc
 asks (other m layer value) at room h required have source n v = absurd (h n)
 
-pub row-asks-for-more : {s : List ℕ} {p : Place} {hs : List Entry} {r : Row} → Broken s p hs r → Asks r
-unfolding Asks
-row-asks-for-more {s} (fails {p} {f} b) = asks f (p .at) (p .room .source) (sound (fair (p .kind) (p .room .version) (bytes s p) (p .room .end - p .at)) b)
+pub row-asks-for-more : {s : List ℕ} {p : Place} {hs : List HeaderAt} {r : Row} → Broken s p hs r → Asks r
+row-asks-for-more {s} (fails {p} {f} b) =
+    let a = fair (p .kind) (p .room .version) (bytes s p) (p .room .end - p .at) in
+    asks f (p .at) (p .room .source) (sound a b)
 row-asks-for-more (late-hop h e) = λ required have source n v. absurd (omega arith)
 row-asks-for-more (more h l b) = row-asks-for-more b
 
+-- of a frame, by its entry
+frame-asks-for-more : (e : Entry) (s : List ℕ) {hs : List HeaderAt} {r : Row} → BrokenOf e s hs r → Asks r
+frame-asks-for-more e s b = go b refl
+  where
+    go : {f : Follow} {hs : List HeaderAt} {r : Row} → BrokenFrom s f hs r → opening e s ≡ f → Asks r
+    go (opened b) q = row-asks-for-more b
+    go unopened q = opening-asks e s q
+
 -- ---- for every answer that is refused for a reason: the reply, header k and the count (Refused.antt)
 
-pub short-asks-for-more : (entry : Given) (s : List ℕ) (Is : Refusal → Type 0) → RefusedForAReason entry s Is
+pub short-asks-for-more : (entry : Entry) (s : List ℕ) (Is : Refusal → Type 0) → RefusedForAReason entry s Is
     → (offset required have : ℕ) (layer : Layer) (source : Source) → Is (R.TooShort offset required have layer source) → have < required
-unfolding Asks
 short-asks-for-more entry s Is a offset required have layer source i =
-    row-asks-for-more (a .breaks (R.TooShort offset required have layer source) i .1) required have _ refl refl
+    let b = a .breaks (R.TooShort offset required have layer source) i .1 in
+    frame-asks-for-more entry s b required have _ refl refl

@@ -3,6 +3,10 @@ use Prim.Native.Nat.{ℕ}
 use mathlib.Core.Path.{_≡_, refl, sym, ap, _∙_}
 use lib.ListN.{getD}
 use lib.Dec.{eqb}
+use Rattle.rules.specs.declared.kind.Kind.{Kind}
+use Rattle.rules.specs.declared.kind.Kind.the-variants as K
+use Rattle.rules.specs.declared.kind.Layer.{Layer}
+use Rattle.rules.specs.declared.kind.Layer.the-variants as L
 use Rattle.rules.specs.declared.kind.Source.the-variants as S
 use Rattle.rules.specs.declared.place.Header.{Header}
 use Rattle.rules.specs.declared.refusal.Fault.{Fault}
@@ -11,21 +15,32 @@ use Rattle.rules.specs.declared.refusal.Refusal.{Refusal}
 use Rattle.rules.specs.declared.refusal.Refusal.the-variants as R
 use Rattle.rules.specs.declared.refusal.Row.{Row}
 use Rattle.rules.specs.declared.stop.Stop.the-variants as T
-use Rattle.rules.specs.Test.{pick, sourceNumber, Failure, short, other, Outcome, whole, failed}
-use Rattle.rules.specs.Paper.{stopNumber, faultOnPaper, refusalOnPaper}
-use Rattle.rules.specs.Rules as W
+use Rattle.rules.specs.declared.turn.Turn.{Turn}
+use Rattle.rules.specs.declared.turn.Turn.the-variants as U
+use Rattle.rules.specs.Named.{kindNumber, layerNumber, sourceNumber, stopNumber}
+use Rattle.rules.specs.Test.{pick, Failure, short, other, Verdict, whole, failed}
+use Rattle.rules.specs.Paper.{faultOnPaper, refusalOnPaper}
 use Rattle.rules.specs.Place.{endingOnPaper}
 use Rattle.rules.specs.Walk.{Answer, is, no-more, refusal}
 use Rattle.headers.specs.declared.link.LinkRead.the-variants as HL
 use Rattle.headers.specs.declared.net.IpRead.the-variants as HI
 use Rattle.headers.specs.declared.net.ExtRead.the-variants as HE
-use Rattle.headers.specs.declared.transport.TransportRead.{TransportRead}
 use Rattle.headers.specs.declared.transport.TransportRead.the-variants as HT
 use Rattle.headers.specs.Says.{linkOnPaper, ipOnPaper, extOnPaper, transportOnPaper}
-use Rattle.turns.specs.declared.turn.Turn.{Turn}
-use Rattle.turns.specs.declared.turn.Turn.the-variants as U
-use Rattle.turns.specs.Turns.{turnOnPaper}
-use Rattle.slicer.specs.declared.packet.Outcome.{Outcome as Ends}
+use Rattle.one_header.specs.declared.link.LinkAt.the-variants as AL
+use Rattle.one_header.specs.declared.ip.IpAt.the-variants as AI
+use Rattle.one_header.specs.declared.ext.ExtAt.the-variants as AE
+use Rattle.one_header.specs.declared.transport.TransportAt.the-variants as AT
+use Rattle.one_header.specs.declared.ip.IpKind.the-variants as IK
+use Rattle.one_header.specs.declared.link.LinkEnd.the-variants as LE
+use Rattle.one_header.specs.declared.link.LinkTurn.{LinkTurn}
+use Rattle.one_header.specs.declared.link.LinkTurn.the-variants as LT
+use Rattle.one_header.specs.declared.transport.TransportTurn.{TransportTurn}
+use Rattle.one_header.specs.declared.transport.TransportTurn.the-variants as TT
+use Rattle.one_header.specs.At.{Placed, linkAtOnPaper, ipAtOnPaper, extAtOnPaper, transportAtOnPaper}
+use Rattle.one_header.specs.At as A
+use Rattle.one_header.specs.Turns.{linkTurnOnPaper, transportTurnOnPaper}
+use Rattle.slicer.specs.declared.packet.Outcome.{Outcome}
 use Rattle.slicer.specs.declared.packet.Outcome.the-variants as O
 use Rattle.steps.specs.declared.list.HeaderAnswer.{HeaderAnswer}
 use Rattle.steps.specs.declared.list.HeaderAnswer.the-variants as H
@@ -49,6 +64,67 @@ settled-by b {x} {y} e f = sym (b .same x) ∙ ap (b .back) (e ∙ sym f) ∙ b 
 
 -- ---- numbers
 
+kindOf : ℕ → Kind
+kindOf n =
+    pick (eqb n 1) K.Ethernet2
+    (pick (eqb n 2) K.Vlan
+    (pick (eqb n 3) K.Ipv4
+    (pick (eqb n 4) K.Ipv6
+    (pick (eqb n 5) K.HopByHop
+    (pick (eqb n 6) K.Routing
+    (pick (eqb n 7) K.Destination
+    (pick (eqb n 8) K.Fragment
+    (pick (eqb n 9) K.Auth
+    (pick (eqb n 10) K.Udp K.Tcp)))))))))
+
+layerOf : ℕ → Layer
+layerOf n = pick (eqb n 13) L.Ipv4Packet (pick (eqb n 14) L.Ipv6Packet (pick (eqb n 15) L.UdpPayload (L.Of (kindOf n))))
+
+pub kind-back : Back kindNumber
+unfolding kindOf
+kind-back =
+    record {
+      back = kindOf;
+      same = elim [
+        | K.Ethernet2 ↦ refl
+        | K.Vlan ↦ refl
+        | K.Ipv4 ↦ refl
+        | K.Ipv6 ↦ refl
+        | K.HopByHop ↦ refl
+        | K.Routing ↦ refl
+        | K.Destination ↦ refl
+        | K.Fragment ↦ refl
+        | K.Auth ↦ refl
+        | K.Udp ↦ refl
+        | K.Tcp ↦ refl
+      ];
+    }
+
+-- no kind has a number of the other layers
+of-kind : (k : Kind) → layerOf (kindNumber k) ≡ L.Of (kindOf (kindNumber k))
+unfolding layerOf
+of-kind K.Ethernet2 = refl
+of-kind K.Vlan = refl
+of-kind K.Ipv4 = refl
+of-kind K.Ipv6 = refl
+of-kind K.HopByHop = refl
+of-kind K.Routing = refl
+of-kind K.Destination = refl
+of-kind K.Fragment = refl
+of-kind K.Auth = refl
+of-kind K.Udp = refl
+of-kind K.Tcp = refl
+
+layer-same : (l : Layer) → layerOf (layerNumber l) ≡ l
+unfolding layerOf kind-back
+layer-same (L.Of k) = of-kind k ∙ ap L.Of (kind-back .same k)
+layer-same L.Ipv4Packet = refl
+layer-same L.Ipv6Packet = refl
+layer-same L.UdpPayload = refl
+
+pub layer-back : Back layerNumber
+layer-back = record { back = layerOf; same = layer-same }
+
 pub source-back : Back sourceNumber
 source-back =
     record {
@@ -59,7 +135,10 @@ source-back =
 pub stop-back : Back stopNumber
 stop-back =
     record {
-      back = λ n. pick (eqb n 1) T.EtherTypeNotOpened (pick (eqb n 2) T.TagsFull (pick (eqb n 3) T.Fragment (pick (eqb n 4) T.IpNumberNotOpened T.TransportRead)));
+      back = λ n. pick (eqb n 1) T.EtherTypeNotOpened
+          (pick (eqb n 2) T.TagsFull
+          (pick (eqb n 3) T.Fragment
+          (pick (eqb n 4) T.IpNumberNotOpened T.TransportRead)));
       same = elim [ T.EtherTypeNotOpened ↦ refl | T.TagsFull ↦ refl | T.Fragment ↦ refl | T.IpNumberNotOpened ↦ refl | T.TransportRead ↦ refl ];
     }
 
@@ -67,7 +146,7 @@ stop-back =
 
 refusalOf : Row → Refusal
 refusalOf r =
-    pick (eqb (r .number) 1) (R.TooShort (r .offset) (value 0) (value 1) (r .layer) (source-back .back (value 2)))
+    pick (eqb (r .number) 1) (R.TooShort (r .offset) (value 0) (value 1) (layerOf (r .layer)) (source-back .back (value 2)))
     (pick (eqb (r .number) 2) (R.Ipv4Version (r .offset) (value 0))
     (pick (eqb (r .number) 3) (R.SmallIhl (r .offset) (value 0))
     (pick (eqb (r .number) 4) (R.Ipv6Version (r .offset) (value 0))
@@ -80,7 +159,9 @@ refusalOf r =
 
 refusal-same : (q : Refusal) → refusalOf (refusalOnPaper q) ≡ q
 unfolding refusalOf
-refusal-same (R.TooShort offset required have layer source) = ap (R.TooShort offset required have layer) (source-back .same source)
+refusal-same (R.TooShort offset required have layer source) =
+    ap (λ (l : Layer). R.TooShort offset required have l (source-back .back (sourceNumber source))) (layer-same layer)
+    ∙ ap (R.TooShort offset required have layer) (source-back .same source)
 refusal-same (R.Ipv4Version offset version) = refl
 refusal-same (R.SmallIhl offset ihl) = refl
 refusal-same (R.Ipv6Version offset version) = refl
@@ -113,7 +194,7 @@ fault-back = record { back = faultOf; same = fault-same }
 
 -- ---- the readers' answers
 
-read-off : {A B : Type 0} → (A → B) → (Fault → B) → Outcome A → B
+read-off : {A B : Type 0} → (A → B) → (Fault → B) → Verdict A → B
 read-off w r (whole x) = w x
 read-off w r (failed f) = r (faultOf f)
 
@@ -133,6 +214,57 @@ pub transport-back : Back transportOnPaper
 unfolding read-off
 transport-back = record { back = read-off HT.Whole HT.Refused; same = elim [ HT.Whole x ↦ refl | HT.Refused f ↦ ap HT.Refused (fault-same f) ] }
 
+-- ---- the same at a place
+
+place-off : {A B : Type 0} → (A → B) → (Refusal → B) → Placed A → B
+place-off w r (A.here x) = w x
+place-off w r (A.refused q) = r (refusalOf q)
+
+pub link-at-back : Back linkAtOnPaper
+unfolding place-off
+link-at-back = record { back = place-off AL.Whole AL.Refused; same = elim [ AL.Whole x ↦ refl | AL.Refused q ↦ ap AL.Refused (refusal-same q) ] }
+
+pub ip-at-back : Back ipAtOnPaper
+unfolding place-off
+ip-at-back = record { back = place-off AI.Whole AI.Refused; same = elim [ AI.Whole x ↦ refl | AI.Refused q ↦ ap AI.Refused (refusal-same q) ] }
+
+pub ext-at-back : Back extAtOnPaper
+unfolding place-off
+ext-at-back = record { back = place-off AE.Whole AE.Refused; same = elim [ AE.Whole x ↦ refl | AE.Refused q ↦ ap AE.Refused (refusal-same q) ] }
+
+pub transport-at-back : Back transportAtOnPaper
+unfolding place-off
+transport-at-back = record { back = place-off AT.Whole AT.Refused; same = elim [ AT.Whole x ↦ refl | AT.Refused q ↦ ap AT.Refused (refusal-same q) ] }
+
+-- ---- where a number leads
+
+-- a link number opens a tag or an IP header, and is never a late hop-by-hop header
+linkTurnOf : Turn → LinkTurn
+linkTurnOf (U.Opens k) =
+    pick (eqb (kindNumber k) (kindNumber K.Vlan)) LT.Tag
+    (LT.Ends (LE.Opens (pick (eqb (kindNumber k) (kindNumber K.Ipv4)) IK.Ipv4 IK.Ipv6)))
+linkTurnOf (U.Stops stop) = LT.Ends (LE.Stops stop)
+linkTurnOf U.LateHopByHop = LT.Tag
+
+link-turn-same : (t : LinkTurn) → linkTurnOf (linkTurnOnPaper t) ≡ t
+unfolding linkTurnOf
+link-turn-same LT.Tag = refl
+link-turn-same (LT.Ends (LE.Opens IK.Ipv4)) = refl
+link-turn-same (LT.Ends (LE.Opens IK.Ipv6)) = refl
+link-turn-same (LT.Ends (LE.Stops stop)) = refl
+
+pub link-turn-back : Back linkTurnOnPaper
+link-turn-back = record { back = linkTurnOf; same = link-turn-same }
+
+transportTurnOf : Turn → TransportTurn
+transportTurnOf (U.Opens k) = pick (eqb (kindNumber k) (kindNumber K.Udp)) TT.Udp TT.Tcp
+transportTurnOf (U.Stops stop) = TT.Stops stop
+transportTurnOf U.LateHopByHop = TT.Udp
+
+pub transport-turn-back : Back transportTurnOnPaper
+unfolding transportTurnOf
+transport-turn-back = record { back = transportTurnOf; same = elim [ TT.Udp ↦ refl | TT.Tcp ↦ refl | TT.Stops stop ↦ refl ] }
+
 -- ---- the slicer's answers
 
 pub ending-back : Back endingOnPaper
@@ -142,13 +274,13 @@ ending-back =
       same = λ e i. record { payload = e .payload; number = e .number; stop = stop-back .same (e .stop) i };
     }
 
-endsOf : Ended → Ends
-endsOf (accepted x) = O.Accepted (ending-back .back x)
-endsOf (refused r) = O.Refused (refusalOf r)
+outcomeOf : Ended → Outcome
+outcomeOf (accepted x) = O.Accepted (ending-back .back x)
+outcomeOf (refused r) = O.Refused (refusalOf r)
 
 pub outcome-back : Back outcomeOnPaper
-unfolding endsOf
-outcome-back = record { back = endsOf; same = elim [ O.Accepted e ↦ ap O.Accepted (ending-back .same e) | O.Refused q ↦ ap O.Refused (refusal-same q) ] }
+unfolding outcomeOf
+outcome-back = record { back = outcomeOf; same = elim [ O.Accepted e ↦ ap O.Accepted (ending-back .same e) | O.Refused q ↦ ap O.Refused (refusal-same q) ] }
 
 -- the unused slots of the tags included
 pub packet-back : Back packetOnPaper
@@ -182,17 +314,12 @@ stepOf (P.last len x) = N.Last len (ending-back .back x)
 stepOf (P.refused r) = N.Refused (refusalOf r)
 stepOf P.not-a-place = N.NotAPlace
 
-pub step-back : Back stepOnPaper
+step-same : (a : Step) → stepOf (stepOnPaper a) ≡ a
 unfolding stepOf
-step-back = record { back = stepOf; same = elim [ N.Next len p ↦ refl | N.Last len e ↦ ap (N.Last len) (ending-back .same e) | N.Refused q ↦ ap N.Refused (refusal-same q) | N.NotAPlace ↦ refl ] }
+step-same (N.Next len p) = refl
+step-same (N.Last len e) = ap (N.Last len) (ending-back .same e)
+step-same (N.Refused q) = ap N.Refused (refusal-same q)
+step-same N.NotAPlace = refl
 
--- ---- where a number leads
-
-turnOf : W.Turn → Turn
-turnOf (W.opens k) = U.Opens k
-turnOf (W.stops n) = U.Stops (stop-back .back n)
-turnOf W.late = U.Late
-
-pub turn-back : Back turnOnPaper
-unfolding turnOf
-turn-back = record { back = turnOf; same = elim [ U.Opens k ↦ refl | U.Stops s ↦ ap U.Stops (stop-back .same s) | U.Late ↦ refl ] }
+pub step-back : Back stepOnPaper
+step-back = record { back = stepOf; same = step-same }

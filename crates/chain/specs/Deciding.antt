@@ -1,24 +1,24 @@
 -- Only the deciding bytes of the headers that are met matter: two frames of one length that agree on those get one walk.
 use Prim.Native.Nat.{ℕ, zero, suc, _-_}
-use mathlib.Core.Path.{_≡_, refl, sym, ap, _∙_}
+use mathlib.Core.Path.{_≡_, refl, sym, ap, _∙_, subst}
 use mathlib.Core.List.{List}
 use lib.ListN.{length}
-use Rattle.rules.specs.declared.kind.Kind.{Kind}
+use Rattle.rules.specs.declared.entry.Entry.{Entry}
 use Rattle.rules.specs.declared.place.Place.{Place}
-use Rattle.rules.specs.Place.{Found, bytes, outcome, read, start, entryKind}
-use Rattle.rules.specs.Walk.{Trace, Entry, step, walk, trace, headerOf, countOf, slices}
+use Rattle.rules.specs.Place.{Follow, next, halt, wrong, Found, bytes, outcome, read, opening}
+use Rattle.rules.specs.Walk.{Trace, HeaderAt, headerOf, countOf, step, walk, trace, onward, slices}
 use Rattle.laws.specs.Gather.{gathered}
 use Rattle.laws.specs.Reads.{parts}
 use Rattle.laws.specs.Walks.{step-same}
-use Rattle.rules.specs.declared.entry.Entry.{Entry as Given}
+use Rattle.laws.specs.Openings.{opening-begins, never-halts, endingAt, AgreeAt, opening-elsewhere, wrong-elsewhere}
+use Rattle.chain.specs.Chain.{Stands, Leads}
+use Rattle.chain.specs.Walked.{stands, next-leads}
+use Rattle.chain.specs.Agree.{same-deciding}
 use Rattle.slicer.specs.declared.packet.SlicedPacket.{SlicedPacket}
 use Rattle.steps.specs.declared.list.HeaderAnswer.{HeaderAnswer}
 use Rattle.steps.specs.declared.list.CountAnswer.{CountAnswer}
 use Rattle.slicer.specs.Reply.{nothing, sliceWay, replyOf}
-use Rattle.steps.specs.Lists.{met, laid}
-use Rattle.chain.specs.Chain.{Stands, Leads}
-use Rattle.chain.specs.Walked.{stands, next-leads}
-use Rattle.chain.specs.Agree.{AgreeAt, same-deciding}
+use Rattle.steps.specs.Lists.{headersRead, writtenFrom}
 use Rattle.chain.specs.Answers.{Sliced, HeaderIs, CountIs, ListIs}
 use Rattle.chain.specs.Back.{settled-by, packet-back, header-back, count-back}
 
@@ -26,6 +26,10 @@ use Rattle.chain.specs.Back.{settled-by, packet-back, header-back, count
 pub data Reach (s : List ℕ) : Place → Place → Type 0 where
   here : {p : Place} → Reach s p p
   onto : {p q r : Place} → Stands s p → Leads s p q → Reach s q r → Reach s p r
+
+-- from how a frame opens: at a place; the walk of one that does not open comes to none
+pub data ReachFrom (s : List ℕ) : Follow → Place → Type 0 where
+  opened : {p q : Place} → Reach s p q → ReachFrom s (next p) q
 
 pub same-read : (s t : List ℕ) (p : Place) → bytes s p ≡ bytes t p → read s p ≡ read t p
 unfolding read outcome
@@ -36,29 +40,45 @@ unfolding walk
 walks-agree zero s t p h = refl
 walks-agree (suc n) s t p h =
     step-same p (read s p) (walk n s) (walk n t)
-    (λ x q e f. let z = parts s p e in walks-agree n s t q (λ r m. h r (onto (stands s p (z .passed)) (next-leads s p (ap (λ (y : Found). y .follow) (sym (z .found)) ∙ f)) m)))
+    (λ x q e f. let z = parts s p e in
+    let l = next-leads s p (ap (λ (y : Found). y .follow) (sym (z .found)) ∙ f) in
+    walks-agree n s t q (λ r m. h r (onto (stands s p (z .passed)) l m)))
     ∙ ap (λ r. step p r (walk n t)) (same-read s t p (same-deciding s t p (h p here)))
 
-pub deciding-bytes : (k : Kind) (s t : List ℕ) → length s ≡ length t → ((q : Place) → Reach s (start k s) q → AgreeAt s t q) → slices k s ≡ slices k t
-unfolding slices trace start
-deciding-bytes k s t e h = rw (← e) (walks-agree _ s t _ h)
+traces-agree : (s t : List ℕ) (p : Place) → ((q : Place) → Reach s p q → AgreeAt s t q) → trace s p ≡ trace t p
+unfolding trace
+traces-agree s t p h = walks-agree (suc (p .room .end - p .at)) s t p h
+
+pub deciding-bytes : (e : Entry) (s t : List ℕ) → length s ≡ length t → ((q : Place) → ReachFrom s (opening e s) q → AgreeAt s t q)
+    → slices e s ≡ slices e t
+unfolding slices
+deciding-bytes e s t l h = go (opening e s) refl
+  where
+    go : (f : Follow) → opening e s ≡ f → onward s (opening e s) ≡ onward t (opening e t)
+    go (next p) w =
+        let agree : (q : Place) → Reach s p q → AgreeAt s t q = λ q m. h q (subst (λ (f : Follow). ReachFrom s f q) (sym w) (opened m)) in
+        let there = opening-elsewhere e s t w (agree p here) in
+        let same = ap (endingAt p) (sym l ∙ sym (opening-begins e s w .whole-room)) in
+        ap (onward s) w ∙ traces-agree s t p agree ∙ ap (onward t) (ap next (sym same) ∙ sym there)
+    go (halt x) w = absurd (never-halts e s w)
+    go (wrong r) w = ap (onward s) w ∙ ap (onward t) (sym (wrong-elsewhere e s t w l))
 
 -- ---- for the public answers: frames of one length that agree on the deciding bytes of every header that the first one's walk
 -- comes to, the refused one included, get the same answers
 
-module _ (entry : Given) (s t : List ℕ) (e : length s ≡ length t) (h : (q : Place) → Reach s (start (entryKind entry) s) q → AgreeAt s t q) where
-  same-walk : slices (entryKind entry) t ≡ slices (entryKind entry) s
-  same-walk = sym (deciding-bytes (entryKind entry) s t e h)
+module _ (entry : Entry) (s t : List ℕ) (e : length s ≡ length t) (h : (q : Place) → ReachFrom s (opening entry s) q → AgreeAt s t q) where
+  same-walk : slices entry t ≡ slices entry s
+  same-walk = sym (deciding-bytes entry s t e h)
 
   pub same-reply : (a b : SlicedPacket) → Sliced entry s a → Sliced entry t b → a ≡ b
   unfolding replyOf
   same-reply a b f g = settled-by packet-back f (g ∙ ap (gathered sliceWay nothing) same-walk)
 
   pub same-header : (k : ℕ) (a b : HeaderAnswer) → HeaderIs entry s k a → HeaderIs entry t k b → a ≡ b
-  same-header k a b f g = settled-by header-back f (g ∙ ap (λ (w : Trace Entry). headerOf w k) same-walk)
+  same-header k a b f g = settled-by header-back f (g ∙ ap (λ (w : Trace HeaderAt). headerOf w k) same-walk)
 
   pub same-count : (a b : CountAnswer) → CountIs entry s a → CountIs entry t b → a ≡ b
   same-count a b f g = settled-by count-back f (g ∙ ap countOf same-walk)
 
   pub same-list : (k : ℕ) (before a b : List ℕ) → ListIs entry s k before a → ListIs entry t k before b → a ≡ b
-  same-list k before a b f g = f ∙ ap (λ (w : Trace Entry). laid k (met w) before) (sym same-walk) ∙ sym g
+  same-list k before a b f g = f ∙ ap (λ (w : Trace HeaderAt). writtenFrom k (headersRead w) before) (sym same-walk) ∙ sym g

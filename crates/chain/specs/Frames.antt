@@ -1,6 +1,6 @@
 -- Document 01's starred frames, F1 to F10, in one table under one claim, by computation; besides them F12, the 60-byte line and the
 -- first byte 0x54. Bytes that the paper leaves open are zero.
-use Prim.Native.Nat.{ℕ, _+_, _*_, _/_, _%_}
+use Prim.Native.Nat.{ℕ, _*_, _/_, _%_}
 use mathlib.Core.Path.{_≡_, refl, ap}
 use mathlib.Core.List.{List, [], _∷_, _++_, map}
 use lib.ListN.{replicate}
@@ -11,9 +11,11 @@ use Rattle.rules.specs.declared.kind.Source.{Source}
 use Rattle.rules.specs.declared.kind.Source.the-variants as S
 use Rattle.rules.specs.declared.place.Number.{Number}
 use Rattle.rules.specs.declared.place.Number.the-variants.{Link, Ip}
-use Rattle.rules.specs.Test.{sourceNumber, row, judge}
-use Rattle.rules.specs.Rules.{etherType, ipNumber, isTag, link, transport, chain4, chain6, lengthOf, declaredOf, marksOf, namesOf, turnOf, payloadOf, seenBy, testsBy}
-use Rattle.rules.specs.Place.{leaves, follow, followOf, bytes, outcome, read, start}
+use Rattle.rules.specs.Named.{sourceNumber}
+use Rattle.rules.specs.Test.{row, judge}
+use Rattle.rules.specs.Rules.{etherType, ipNumber, isTag, link, transport, chain4, chain6}
+use Rattle.rules.specs.Rules.{lengthOf, declaredOf, fragmentOf, namesOf, turnOf, payloadOf, seenBy, testsBy}
+use Rattle.rules.specs.Place.{leaves, follow, followOf, bytes, outcome, read, start, opening}
 use Rattle.rules.specs.Walk.{walk, trace, slices}
 use Rattle.laws.specs.Gather.{gathered, listed}
 use Rattle.checksum.specs.Sum.{total, totals, fold, answer, noZero}
@@ -58,18 +60,18 @@ pub data Told : Type 0 where
   reply : Ended → Told
   checksum : ℕ → Told
 
-pub record Row : Type 0 where
+pub record Sample : Type 0 where
   pub asked : Question
   pub told : Told
 
 -- what the definitions give
 pub ask : Question → Told
-ask (frame s) = reply (replyOf Ethernet2 s .ended)
+ask (frame s) = reply (replyOf E.Ethernet s .ended)
 ask (sum slices) = checksum (answer (fold (totals slices)))
 ask (no-zero slices) = checksum (noZero (answer (fold (totals slices))))
 
 infixl 1 _gives_
-_gives_ : Question → Told → Row
+_gives_ : Question → Told → Sample
 q gives t = record { asked = q; told = t }
 
 -- a stop, the number that names the payload, and where the payload begins and ends
@@ -82,7 +84,7 @@ short layer offset required have source = reply (refused (row 1 layer offset (re
 other : ℕ → Layer → (offset value : ℕ) → Told
 other n layer offset value = reply (refused (row n layer offset (value ∷ 0 ∷ 0 ∷ [])))
 
-pub table : List Row
+pub table : List Sample
 table =
     -- F1: 13 bytes; 14 bytes of type 0x0806
     (frame (zeros 13) gives short (Of Ethernet2) 0 14 13 S.Slice)
@@ -128,8 +130,10 @@ table =
     ∷ []
 
 -- every row's answer is the listed one
-pub frames-right : map (λ (r : Row). ask (r .asked)) table ≡ map (λ (r : Row). r .told) table
-unfolding table ask _gives_ stop short other zeros two ethernet tag ipv4 ipv6 udp tcp replyOf gathered listed slots slices trace walk start read outcome bytes seenBy judge testsBy leaves lengthOf declaredOf marksOf namesOf turnOf payloadOf follow followOf link isTag chain4 chain6 transport total totals fold noZero
+pub frames-right : map (λ (r : Sample). ask (r .asked)) table ≡ map (λ (r : Sample). r .told) table
+unfolding table ask _gives_ stop short other zeros two ethernet tag ipv4 ipv6 udp tcp replyOf gathered listed slots slices opening trace walk
+    start read outcome bytes seenBy judge testsBy leaves lengthOf declaredOf fragmentOf namesOf turnOf payloadOf follow followOf
+    link isTag chain4 chain6 transport total totals fold noZero
 frames-right = refl
 
 -- and so is that of `slice`: what it tells of a frame is what the definitions give

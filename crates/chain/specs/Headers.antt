@@ -7,41 +7,44 @@ use native.Mathlib.Omega.{arith}
 use lib.ListN.{length}
 use Rattle.rules.specs.declared.place.Header.{Header}
 use Rattle.rules.specs.declared.place.Place.{Place}
-use Rattle.rules.specs.Place.{Stopped, bytes, entryKind}
-use Rattle.rules.specs.Walk.{Trace, Entry, header, is, no-more, nth, headerOf, countOf}
+use Rattle.rules.specs.Place.{Stopped, bytes}
+use Rattle.rules.specs.Walk.{Trace, HeaderAt, header, is, no-more, nth, headerOf, countOf}
 use Rattle.laws.specs.Kinds.{sized}
 use Rattle.laws.specs.Walks.{nth-past}
-use Rattle.rules.specs.declared.entry.Entry.{Entry as Given}
+use Rattle.rules.specs.declared.entry.Entry.{Entry}
 use Rattle.steps.specs.declared.list.HeaderAnswer.{HeaderAnswer}
 use Rattle.steps.specs.declared.list.HeaderAnswer.the-variants as H
 use Rattle.steps.specs.declared.list.CountAnswer.{CountAnswer}
 use Rattle.steps.specs.declared.list.CountAnswer.the-variants as C
-use Rattle.steps.specs.Lists.{headerOnPaper, countOnPaper, met, laid}
-use Rattle.chain.specs.Chain.{entryAt, Chain, last, more}
+use Rattle.steps.specs.Lists.{headerOnPaper, countOnPaper, headersRead, writtenFrom}
+use Rattle.chain.specs.Chain.{listedAt, Chain, last, more, At, here, later}
 use Rattle.chain.specs.Accepted.{HasChain}
 use Rattle.chain.specs.Walked.{Walked, whole-walk, broken-walk, walked, chain→slices}
 use Rattle.chain.specs.Answers.{HeaderIs, CountIs, ListIs}
 
--- e is number k of the list
-pub data At : List Entry → ℕ → Entry → Type 0 where
-  here : {e : Entry} {hs : List Entry} → At (e ∷ hs) 0 e
-  later : {e f : Entry} {hs : List Entry} {k : ℕ} → At hs k f → At (e ∷ hs) (suc k) f
+-- the header h is number k of a chain
+abbrev pub FromChain : Entry → List ℕ → ℕ → Header → Type 0
+FromChain entry s k h = (hs : List HeaderAt) × (x : Stopped) × (e : HeaderAt) × HasChain entry s hs x × At hs k e × (header e ≡ h)
+
+-- a chain has n headers
+abbrev pub ChainOfLength : Entry → List ℕ → ℕ → Type 0
+ChainOfLength entry s n = (hs : List HeaderAt) × (x : Stopped) × HasChain entry s hs x × (length hs ≡ n)
 
 -- what is said of an answer r for header k: number k of the chain, with its kind, offset and length; behind the last one no more;
 -- and a header is answered only from a chain, at its number
-pub record HeadersInOrder (entry : Given) (s : List ℕ) (k : ℕ) (r : HeaderAnswer) : Type 0 where
-  pub in-order : (hs : List Entry) (x : Stopped) (e : Entry) → HasChain entry s hs x → At hs k e → r ≡ H.Is (header e)
-  pub then-no-more : (hs : List Entry) (x : Stopped) → HasChain entry s hs x → length hs ≤ k → r ≡ H.NoMore
-  pub from-chain : (h : Header) → r ≡ H.Is h → (hs : List Entry) × (x : Stopped) × (e : Entry) × HasChain entry s hs x × At hs k e × (header e ≡ h)
+pub record HeadersInOrder (entry : Entry) (s : List ℕ) (k : ℕ) (r : HeaderAnswer) : Type 0 where
+  pub in-order : (hs : List HeaderAt) (x : Stopped) (e : HeaderAt) → HasChain entry s hs x → At hs k e → r ≡ H.Is (header e)
+  pub then-no-more : (hs : List HeaderAt) (x : Stopped) → HasChain entry s hs x → length hs ≤ k → r ≡ H.NoMore
+  pub from-chain : (h : Header) → r ≡ H.Is h → FromChain entry s k h
 
 -- what is said of a count r: the chain's length, and only that of a chain
-pub record CountIsLength (entry : Given) (s : List ℕ) (r : CountAnswer) : Type 0 where
-  pub is-length : (hs : List Entry) (x : Stopped) → HasChain entry s hs x → r ≡ C.Is (length hs)
-  pub from-chain : (n : ℕ) → r ≡ C.Is n → (hs : List Entry) × (x : Stopped) × HasChain entry s hs x × (length hs ≡ n)
+pub record CountIsLength (entry : Entry) (s : List ℕ) (r : CountAnswer) : Type 0 where
+  pub is-length : (hs : List HeaderAt) (x : Stopped) → HasChain entry s hs x → r ≡ C.Is (length hs)
+  pub from-chain : (n : ℕ) → r ≡ C.Is n → ChainOfLength entry s n
 
 -- ---- header 0, 1, 2 and so on
 
-at-nth : {hs : List Entry} {k : ℕ} {e : Entry} → At hs k e → nth (map header hs) k ≡ is (header e)
+at-nth : {hs : List HeaderAt} {k : ℕ} {e : HeaderAt} → At hs k e → nth (map header hs) k ≡ is (header e)
 at-nth here = refl
 at-nth (later a) = at-nth a
 
@@ -59,64 +62,65 @@ is-count : (a : CountAnswer) {n : ℕ} → countOnPaper a ≡ is n → a ≡ C.I
 is-count (C.Is n) e = cc
 is-count (C.Refused r) e = cc
 
-listed-as : (entry : Given) (s : List ℕ) {hs : List Entry} {x : Stopped} (k : ℕ) (r : HeaderAnswer) → HasChain entry s hs x → HeaderIs entry s k r → headerOnPaper r ≡ nth (map header hs) k
+listed-as : (entry : Entry) (s : List ℕ) {hs : List HeaderAt} {x : Stopped} (k : ℕ) (r : HeaderAnswer) → HasChain entry s hs x → HeaderIs entry s k r
+    → headerOnPaper r ≡ nth (map header hs) k
 unfolding headerOf
-listed-as entry s k r c e = e ∙ rw (chain→slices (entryKind entry) s c)
+listed-as entry s k r c e = e ∙ rw (chain→slices entry s c)
 
-counted-as : (entry : Given) (s : List ℕ) {hs : List Entry} {x : Stopped} (r : CountAnswer) → HasChain entry s hs x → CountIs entry s r → countOnPaper r ≡ is (length hs)
+counted-as : (entry : Entry) (s : List ℕ) {hs : List HeaderAt} {x : Stopped} (r : CountAnswer) → HasChain entry s hs x → CountIs entry s r
+    → countOnPaper r ≡ is (length hs)
 unfolding countOf
-counted-as entry s r c e = e ∙ rw (chain→slices (entryKind entry) s c)
+counted-as entry s r c e = e ∙ rw (chain→slices entry s c)
 
 -- every number below the length has its header
-pub every-header : (hs : List Entry) (k : ℕ) → k < length hs → (e : Entry) × At hs k e
+pub every-header : (hs : List HeaderAt) (k : ℕ) → k < length hs → (e : HeaderAt) × At hs k e
 every-header [] k h = absurd (omega arith)
 every-header (e ∷ hs) zero h = (e, here)
 every-header (e ∷ hs) (suc k) h = let z = every-header hs k (omega arith) in (z .0, later (z .1))
 
-at-below : {hs : List Entry} {k : ℕ} {e : Entry} → At hs k e → k < length hs
+at-below : {hs : List HeaderAt} {k : ℕ} {e : HeaderAt} → At hs k e → k < length hs
 at-below here = omega arith
 at-below (later a) = let z = at-below a in omega arith
 
 -- once: each begins where the one before ended, and has some bytes
-head-of : {s : List ℕ} {p : Place} {hs : List Entry} {x : Stopped} {e : Entry} → Chain s p hs x → At hs 0 e → e ≡ entryAt s p
+head-of : {s : List ℕ} {p : Place} {hs : List HeaderAt} {x : Stopped} {e : HeaderAt} → Chain s p hs x → At hs 0 e → e ≡ listedAt s p
 head-of (last h c) here = refl
 head-of (more h l c) here = refl
 
-pub each-once : {s : List ℕ} {p : Place} {hs : List Entry} {x : Stopped} {k : ℕ} {e f : Entry} → Chain s p hs x → At hs k e → At hs (suc k) f
+pub each-once : {s : List ℕ} {p : Place} {hs : List HeaderAt} {x : Stopped} {k : ℕ} {e f : HeaderAt} → Chain s p hs x → At hs k e → At hs (suc k) f
     → (f .at ≡ e .at + e .len) × (4 ≤ e .len)
 each-once {s} (more {p} h l c) here (later a) =
     let y = sized (p .kind) (p .room .version) (bytes s p) (p .room .end - p .at) (h .passes) in
-    (ap (λ (e : Entry). e .at) (head-of c a) ∙ l .begins, omega arith)
+    (ap (λ (e : HeaderAt). e .at) (head-of c a) ∙ l .begins, omega arith)
 each-once (more h l c) (later a) (later b) = each-once c a b
 each-once (last h c) a b = let z = at-below b in absurd (omega arith)
 
 -- ---- and the other way: what is answered comes from a chain
 
-at-of : (hs : List Entry) (k : ℕ) {h : Header} → nth (map header hs) k ≡ is h → (e : Entry) × At hs k e × (header e ≡ h)
+at-of : (hs : List HeaderAt) (k : ℕ) {h : Header} → nth (map header hs) k ≡ is h → (e : HeaderAt) × At hs k e × (header e ≡ h)
 at-of [] k q = let w : _≡_ {A = ℕ} 0 1 = cc in absurd (omega arith)
 at-of (e ∷ hs) zero q = (e, here, cc)
 at-of (e ∷ hs) (suc k) q = let z = at-of hs k q in (z .0, later (z .1), z .2)
 
-header→chain : (entry : Given) (s : List ℕ) (k : ℕ) (r : HeaderAnswer) (h : Header) → HeaderIs entry s k r → r ≡ H.Is h
-    → (hs : List Entry) × (x : Stopped) × (e : Entry) × HasChain entry s hs x × At hs k e × (header e ≡ h)
+header→chain : (entry : Entry) (s : List ℕ) (k : ℕ) (r : HeaderAnswer) (h : Header) → HeaderIs entry s k r → r ≡ H.Is h → FromChain entry s k h
 unfolding headerOf
-header→chain entry s k r h q o = go (walked (entryKind entry) s) (sym (ap headerOnPaper o) ∙ q)
+header→chain entry s k r h q o = go (walked entry s) (sym (ap headerOnPaper o) ∙ q)
   where
-    go : {t : Trace Entry} → Walked (entryKind entry) s t → is h ≡ headerOf t k → (hs : List Entry) × (x : Stopped) × (e : Entry) × HasChain entry s hs x × At hs k e × (header e ≡ h)
+    go : {t : Trace HeaderAt} → Walked entry s t → is h ≡ headerOf t k → FromChain entry s k h
     go (whole-walk {hs} {x} c) y = let z = at-of hs k (sym y) in (hs, x, z .0, c, z .1, z .2)
     go (broken-walk b) y = let w : _≡_ {A = ℕ} 0 1 = cc in absurd (omega arith)
 
-count→chain : (entry : Given) (s : List ℕ) (r : CountAnswer) (n : ℕ) → CountIs entry s r → r ≡ C.Is n → (hs : List Entry) × (x : Stopped) × HasChain entry s hs x × (length hs ≡ n)
+count→chain : (entry : Entry) (s : List ℕ) (r : CountAnswer) (n : ℕ) → CountIs entry s r → r ≡ C.Is n → ChainOfLength entry s n
 unfolding countOf
-count→chain entry s r n q o = go (walked (entryKind entry) s) (sym (ap countOnPaper o) ∙ q)
+count→chain entry s r n q o = go (walked entry s) (sym (ap countOnPaper o) ∙ q)
   where
-    go : {t : Trace Entry} → Walked (entryKind entry) s t → is n ≡ countOf t → (hs : List Entry) × (x : Stopped) × HasChain entry s hs x × (length hs ≡ n)
+    go : {t : Trace HeaderAt} → Walked entry s t → is n ≡ countOf t → ChainOfLength entry s n
     go (whole-walk {hs} {x} c) y = (hs, x, c, cc)
     go (broken-walk b) y = let w : _≡_ {A = ℕ} 0 1 = cc in absurd (omega arith)
 
 -- ---- every answer of `header` and of `count` is so
 
-pub headers-in-order : (entry : Given) (s : List ℕ) (k : ℕ) (r : HeaderAnswer) → HeaderIs entry s k r → HeadersInOrder entry s k r
+pub headers-in-order : (entry : Entry) (s : List ℕ) (k : ℕ) (r : HeaderAnswer) → HeaderIs entry s k r → HeadersInOrder entry s k r
 headers-in-order entry s k r q =
     record {
       in-order = λ hs x e c a. is-it r (listed-as entry s k r c q ∙ at-nth a);
@@ -124,7 +128,7 @@ headers-in-order entry s k r q =
       from-chain = λ h o. header→chain entry s k r h q o;
     }
 
-pub count-is-length : (entry : Given) (s : List ℕ) (r : CountAnswer) → CountIs entry s r → CountIsLength entry s r
+pub count-is-length : (entry : Entry) (s : List ℕ) (r : CountAnswer) → CountIs entry s r → CountIsLength entry s r
 count-is-length entry s r q =
     record {
       is-length = λ hs x c. is-count r (counted-as entry s r c q);
@@ -132,6 +136,7 @@ count-is-length entry s r q =
     }
 
 -- what `headers` writes: the chain's headers from number k on, in order, as far as there is room
-pub list-in-order : (entry : Given) (s : List ℕ) (k : ℕ) (before after : List ℕ) (hs : List Entry) (x : Stopped) → HasChain entry s hs x → ListIs entry s k before after → after ≡ laid k (map header hs) before
-unfolding met
-list-in-order entry s k before after hs x c q = q ∙ rw (chain→slices (entryKind entry) s c)
+pub list-in-order : (entry : Entry) (s : List ℕ) (k : ℕ) (before after : List ℕ) (hs : List HeaderAt) (x : Stopped) → HasChain entry s hs x
+    → ListIs entry s k before after → after ≡ writtenFrom k (map header hs) before
+unfolding headersRead
+list-in-order entry s k before after hs x c q = q ∙ rw (chain→slices entry s c)

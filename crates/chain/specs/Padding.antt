@@ -11,13 +11,14 @@ use Rattle.rules.specs.declared.kind.Kind.the-variants.{Ethernet2, Vlan, Ipv4, 
 use Rattle.rules.specs.declared.place.Place.{Place}
 use Rattle.rules.specs.declared.place.Room.{Room}
 use Rattle.rules.specs.Bytes.{number}
-use Rattle.rules.specs.Rules.{lengthOf, declaredOf, marksOf, turnOf, testsBy, link}
+use Rattle.rules.specs.Rules.{lengthOf, declaredOf, fragmentOf, turnOf, testsBy, link}
 use Rattle.rules.specs.Place.{Found, follow, leaves, read}
 use Rattle.rules.specs.Walk.{step, walk, trace}
 use Rattle.laws.specs.Kinds.{Passes}
 use Rattle.laws.specs.Reads.{parts, ahead}
 use Rattle.laws.specs.Walks.{step-same}
-use Rattle.chain.specs.Agree.{AgreeTo, same-within, ending}
+use Rattle.laws.specs.Openings.{ending}
+use Rattle.chain.specs.Agree.{AgreeTo, same-within}
 use Rattle.chain.specs.Deciding.{same-read}
 
 -- ---- a room that both frames hold
@@ -27,7 +28,9 @@ unfolding walk
 walks-within zero m s t p h e = refl
 walks-within (suc n) m s t p h e =
     step-same p (read s p) (walk n s) (walk n t)
-    (λ x q r f. let z = parts s p r in let y = ahead s p q (z .passed) (ap (λ (y : Found). y .follow) (sym (z .found)) ∙ f) in walks-within n m s t q (omega arith) e)
+    (λ x q r f. let z = parts s p r in
+    let y = ahead s p q (z .passed) (ap (λ (y : Found). y .follow) (sym (z .found)) ∙ f) in
+    walks-within n m s t q (omega arith) e)
     ∙ ap (λ r. step p r (walk n t)) (same-read s t p (same-within m s t p h e))
 
 pub within : (m : ℕ) (s t : List ℕ) (p : Place) → p .room .end ≤ m → AgreeTo m s t → trace s p ≡ trace t p
@@ -42,7 +45,7 @@ pub data IsLink : Kind → Type 0 where
 
 -- a link header leaves the same room, but for its end
 pub link-leaves : {k : Kind} → IsLink k → (g : ℕ → ℕ) (at : ℕ) (p : Room) (e : ℕ) → leaves k g at (ending p e) ≡ ending (leaves k g at p) e
-unfolding leaves marksOf
+unfolding leaves fragmentOf
 link-leaves ethernet2 g at p e = refl
 link-leaves vlan g at p e = refl
 

@@ -7,10 +7,9 @@ use native.Mathlib.Omega.{arith}
 use Rattle.rules.specs.declared.refusal.Refusal.{Refusal}
 use Rattle.rules.specs.declared.refusal.Row.{Row}
 use Rattle.rules.specs.Paper.{refusalOnPaper}
-use Rattle.rules.specs.Walk.{Trace, Entry, header, is, refusal, nth, headerOf, countOf}
+use Rattle.rules.specs.Walk.{Trace, HeaderAt, header, refusal, nth, headerOf, countOf}
 use Rattle.laws.specs.Gather.{gathered}
-use Rattle.rules.specs.declared.entry.Entry.{Entry as Given}
-use Rattle.rules.specs.Place.{entryKind}
+use Rattle.rules.specs.declared.entry.Entry.{Entry}
 use Rattle.slicer.specs.declared.packet.Outcome.{Outcome}
 use Rattle.slicer.specs.declared.packet.Outcome.the-variants as O
 use Rattle.slicer.specs.declared.packet.SlicedPacket.{SlicedPacket}
@@ -26,14 +25,14 @@ use Rattle.chain.specs.Walked.{Walked, whole-walk, broken-walk, walked, 
 use Rattle.chain.specs.Answers.{Sliced, HeaderIs, CountIs}
 
 -- the walk of the frame, by its entry, breaks behind the headers hs with the row r
-abbrev pub Breaks : Given → List ℕ → List Entry → Row → Type 0
-Breaks entry s hs r = BrokenOf (entryKind entry) s hs r
+abbrev pub Breaks : Entry → List ℕ → List HeaderAt → Row → Type 0
+Breaks entry s hs r = BrokenOf entry s hs r
 
 -- what is said of an answer that may be a refusal, where `Is q` says that it is the refusal q: it is refused where the walk breaks, with
 -- that row, and nowhere else
-pub record RefusedForAReason (entry : Given) (s : List ℕ) (Is : Refusal → Type 0) : Type 0 where
-  pub refuses : (hs : List Entry) (r : Row) → Breaks entry s hs r → (q : Refusal) × Is q × (refusalOnPaper q ≡ r)
-  pub breaks : (q : Refusal) → Is q → (hs : List Entry) × Breaks entry s hs (refusalOnPaper q)
+pub record RefusedForAReason (entry : Entry) (s : List ℕ) (Is : Refusal → Type 0) : Type 0 where
+  pub refuses : (hs : List HeaderAt) (r : Row) → Breaks entry s hs r → (q : Refusal) × Is q × (refusalOnPaper q ≡ r)
+  pub breaks : (q : Refusal) → Is q → (hs : List HeaderAt) × Breaks entry s hs (refusalOnPaper q)
 
 is-refused : (o : Outcome) {r : Row} → outcomeOnPaper o ≡ P.refused r → (q : Refusal) × (o ≡ O.Refused q) × (refusalOnPaper q ≡ r)
 is-refused (O.Accepted e) h = let z : _≡_ {A = ℕ} 0 1 = cc in absurd (omega arith)
@@ -50,68 +49,73 @@ is-count-refused (C.Refused q) e = (q, refl, cc)
 
 -- ---- a walk that breaks is refused with the row at which it breaks, whatever is asked
 
-module _ (entry : Given) (s : List ℕ) {hs : List Entry} {r : Row} (b : Breaks entry s hs r) where
+module _ (entry : Entry) (s : List ℕ) {hs : List HeaderAt} {r : Row} (b : Breaks entry s hs r) where
   -- and of the frame nothing else is told
   pub broken→reply : (a : SlicedPacket) → Sliced entry s a → packetOnPaper a ≡ refusedBy r
   unfolding replyOf gathered
-  broken→reply a e = e ∙ rw (broken→slices (entryKind entry) s b)
+  broken→reply a e = e ∙ rw (broken→slices entry s b)
 
   reply-refused : (a : SlicedPacket) → Sliced entry s a → (q : Refusal) × (a .outcome ≡ O.Refused q) × (refusalOnPaper q ≡ r)
   reply-refused a e = is-refused (a .outcome) (ap (λ (p : Reply). p .ended) (broken→reply a e))
 
   header-refused : (k : ℕ) (a : HeaderAnswer) → HeaderIs entry s k a → (q : Refusal) × (a ≡ H.Refused q) × (refusalOnPaper q ≡ r)
   unfolding headerOf
-  header-refused k a e = is-header-refused a (e ∙ rw (broken→slices (entryKind entry) s b))
+  header-refused k a e = is-header-refused a (e ∙ rw (broken→slices entry s b))
 
   count-refused : (a : CountAnswer) → CountIs entry s a → (q : Refusal) × (a ≡ C.Refused q) × (refusalOnPaper q ≡ r)
   unfolding countOf
-  count-refused a e = is-count-refused a (e ∙ rw (broken→slices (entryKind entry) s b))
+  count-refused a e = is-count-refused a (e ∙ rw (broken→slices entry s b))
 
 -- ---- a refusal is given only where the walk breaks, at that row
 
-module _ (entry : Given) (s : List ℕ) (q : Refusal) where
-  nth-not : (hs : List Entry) (k : ℕ) {r : Row} → refusal r ≡ nth (map header hs) k → ⊥
+module _ (entry : Entry) (s : List ℕ) (q : Refusal) where
+  nth-not : (hs : List HeaderAt) (k : ℕ) {r : Row} → refusal r ≡ nth (map header hs) k → ⊥
   nth-not [] k y = let w : _≡_ {A = ℕ} 0 1 = cc in omega arith
   nth-not (h ∷ hs) zero y = let w : _≡_ {A = ℕ} 0 1 = cc in omega arith
   nth-not (h ∷ hs) (suc k) y = nth-not hs k y
 
-  reply→broken : {t : Trace Entry} → Walked (entryKind entry) s t → P.refused (refusalOnPaper q) ≡ gathered sliceWay nothing t .ended
-      → (hs : List Entry) × Breaks entry s hs (refusalOnPaper q)
+  -- the walk breaks with the row of q
+  abbrev BreaksSo : Type 0
+  BreaksSo = (hs : List HeaderAt) × Breaks entry s hs (refusalOnPaper q)
+
+  breaks-so : {hs : List HeaderAt} {r : Row} → Breaks entry s hs r → r ≡ refusalOnPaper q → BreaksSo
+  breaks-so {hs} b z = (hs, subst (Breaks entry s hs) z b)
+
+  reply→broken : {t : Trace HeaderAt} → Walked entry s t → P.refused (refusalOnPaper q) ≡ gathered sliceWay nothing t .ended → BreaksSo
   unfolding gathered
   reply→broken (whole-walk c) y = let w : _≡_ {A = ℕ} 0 1 = cc in absurd (omega arith)
-  reply→broken (broken-walk {hs} {r} b) y = let z : r ≡ refusalOnPaper q = cc in (hs, subst (Breaks entry s hs) z b)
+  reply→broken (broken-walk b) y = breaks-so b (cc)
 
-  header→broken : {t : Trace Entry} (k : ℕ) → Walked (entryKind entry) s t → refusal (refusalOnPaper q) ≡ headerOf t k
-      → (hs : List Entry) × Breaks entry s hs (refusalOnPaper q)
+  header→broken : {t : Trace HeaderAt} (k : ℕ) → Walked entry s t → refusal (refusalOnPaper q) ≡ headerOf t k → BreaksSo
   unfolding headerOf
   header→broken k (whole-walk {hs} c) y = absurd (nth-not hs k y)
-  header→broken k (broken-walk {hs} {r} b) y = let z : r ≡ refusalOnPaper q = cc in (hs, subst (Breaks entry s hs) z b)
+  header→broken k (broken-walk b) y = breaks-so b (cc)
 
-  count→broken : {t : Trace Entry} → Walked (entryKind entry) s t → refusal (refusalOnPaper q) ≡ countOf t → (hs : List Entry) × Breaks entry s hs (refusalOnPaper q)
+  count→broken : {t : Trace HeaderAt} → Walked entry s t → refusal (refusalOnPaper q) ≡ countOf t → BreaksSo
   unfolding countOf
   count→broken (whole-walk c) y = let w : _≡_ {A = ℕ} 0 1 = cc in absurd (omega arith)
-  count→broken (broken-walk {hs} {r} b) y = let z : r ≡ refusalOnPaper q = cc in (hs, subst (Breaks entry s hs) z b)
+  count→broken (broken-walk b) y = breaks-so b (cc)
 
 -- ---- every answer of `slice`, `header` and `count` is so
 
-pub reply-refused-for-a-reason : (entry : Given) (s : List ℕ) (a : SlicedPacket) → Sliced entry s a → RefusedForAReason entry s (λ q. a .outcome ≡ O.Refused q)
+pub reply-refused-for-a-reason : (entry : Entry) (s : List ℕ) (a : SlicedPacket) → Sliced entry s a → RefusedForAReason entry s (λ q. a .outcome ≡ O.Refused q)
 unfolding replyOf
 reply-refused-for-a-reason entry s a e =
     record {
       refuses = λ hs r b. reply-refused entry s b a e;
-      breaks = λ q o. reply→broken entry s q (walked (entryKind entry) s) (sym (ap outcomeOnPaper o) ∙ ap (λ (p : Reply). p .ended) e);
+      breaks = λ q o. reply→broken entry s q (walked entry s) (sym (ap outcomeOnPaper o) ∙ ap (λ (p : Reply). p .ended) e);
     }
 
-pub header-refused-for-a-reason : (entry : Given) (s : List ℕ) (k : ℕ) (a : HeaderAnswer) → HeaderIs entry s k a → RefusedForAReason entry s (λ q. a ≡ H.Refused q)
+pub header-refused-for-a-reason : (entry : Entry) (s : List ℕ) (k : ℕ) (a : HeaderAnswer) → HeaderIs entry s k a → RefusedForAReason entry s (λ q. a ≡ H.Refused q)
 header-refused-for-a-reason entry s k a e =
     record {
       refuses = λ hs r b. header-refused entry s b k a e;
-      breaks = λ q o. header→broken entry s q k (walked (entryKind entry) s) (sym (ap headerOnPaper o) ∙ e);
+      breaks = λ q o. header→broken entry s q k (walked entry s) (sym (ap headerOnPaper o) ∙ e);
     }
 
-pub count-refused-for-a-reason : (entry : Given) (s : List ℕ) (a : CountAnswer) → CountIs entry s a → RefusedForAReason entry s (λ q. a ≡ C.Refused q)
+pub count-refused-for-a-reason : (entry : Entry) (s : List ℕ) (a : CountAnswer) → CountIs entry s a → RefusedForAReason entry s (λ q. a ≡ C.Refused q)
 count-refused-for-a-reason entry s a e =
     record {
       refuses = λ hs r b. count-refused entry s b a e;
-      breaks = λ q o. count→broken entry s q (walked (entryKind entry) s) (sym (ap countOnPaper o) ∙ e);
+      breaks = λ q o. count→broken entry s q (walked entry s) (sym (ap countOnPaper o) ∙ e);
     }

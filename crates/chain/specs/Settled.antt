@@ -1,9 +1,13 @@
 -- "Each public answer is settled by its input alone, refusals with all that they carry included. Prove that no second answer
 -- satisfies the same contract": a statement for each public function. Of two answers x and y that both satisfy its `ensures`, x ≡ y.
-use Prim.Native.Nat.{ℕ}
-use mathlib.Core.Path.{_≡_, refl, sym, _∙_}
+-- The public functions of these crates that are not named here say what they return by `r ≡ ..`. One exception: header_at, below.
+use Prim.Native.Nat.{ℕ, _+_, _-_}
+use mathlib.Core.Path.{_≡_, refl, sym, ap, _∙_}
 use mathlib.Core.Bool.{Bool, false}
 use mathlib.Core.List.{List, []}
+use native.Mathlib.Omega.{arith}
+use lib.ListN.{length}
+use Rattle.rules.specs.declared.entry.Entry.{Entry}
 use Rattle.rules.specs.declared.kind.Kind.{Kind}
 use Rattle.rules.specs.declared.kind.Kind.the-variants as K
 use Rattle.rules.specs.declared.kind.RoomSource.{RoomSource}
@@ -12,25 +16,37 @@ use Rattle.rules.specs.declared.place.Place.{Place}
 use Rattle.rules.specs.declared.place.Room.{Room}
 use Rattle.rules.specs.declared.refusal.Fault.{Fault}
 use Rattle.rules.specs.declared.refusal.Refusal.{Refusal}
+use Rattle.rules.specs.declared.refusal.Row.{Row}
+use Rattle.rules.specs.declared.stop.Stop.{Stop}
+use Rattle.rules.specs.declared.turn.Turn.{Turn}
+use Rattle.rules.specs.declared.turn.Turn.the-variants as T
 use Rattle.rules.specs.Test.{placed}
 use Rattle.rules.specs.Paper.{faultOnPaper, refusalOnPaper}
-use Rattle.rules.specs.Rules.{link, transport, chain4, chain6}
-use Rattle.rules.specs.Place.{start, entryKind}
+use Rattle.rules.specs.Rules.{link, transport}
+use Rattle.rules.specs.Place.{room, Found, Stopped, Follow, halt, follow, reads, refuses, opening}
+use Rattle.rules.specs.Place as W
 use Rattle.headers.specs.declared.link.LinkRead.{LinkRead}
 use Rattle.headers.specs.declared.net.IpRead.{IpRead}
 use Rattle.headers.specs.declared.net.ExtRead.{ExtRead}
 use Rattle.headers.specs.declared.transport.TransportRead.{TransportRead}
 use Rattle.headers.specs.Says.{linkOnPaper, linkSays, ipOnPaper, ipSays, extOnPaper, extSays, rawSays, transportOnPaper, udpSays, tcpSays}
-use Rattle.rules.specs.declared.entry.Entry.{Entry}
-use Rattle.turns.specs.declared.turn.Turn.{Turn}
-use Rattle.turns.specs.Turns.{turnOnPaper}
-use Rattle.turns.specs.Refuses.{rowAt}
+use Rattle.one_header.specs.declared.link.LinkAt.{LinkAt}
+use Rattle.one_header.specs.declared.link.LinkTurn.{LinkTurn}
+use Rattle.one_header.specs.declared.ip.IpAt.{IpAt}
+use Rattle.one_header.specs.declared.ext.ExtAt.{ExtAt}
+use Rattle.one_header.specs.declared.ext.ExtKind.{ExtKind}
+use Rattle.one_header.specs.declared.transport.TransportAt.{TransportAt}
+use Rattle.one_header.specs.declared.transport.TransportTurn.{TransportTurn}
+use Rattle.one_header.specs.declared.header.HeaderFound.{HeaderFound}
+use Rattle.one_header.specs.declared.header.HeaderRead.{HeaderRead}
+use Rattle.one_header.specs.declared.header.HeaderRead.the-variants as D
+use Rattle.one_header.specs.At.{placing, over, setting, linkAtOnPaper, ipAtOnPaper, extAtOnPaper, transportAtOnPaper}
+use Rattle.one_header.specs.Turns.{extKindOf, linkTurnOnPaper, transportTurnOnPaper}
+use Rattle.one_header.specs.Header.{leftBy, foundOnPaper, headerReadOnPaper, readPart}
 use Rattle.slicer.specs.declared.packet.SlicedPacket.{SlicedPacket}
 use Rattle.slicer.specs.declared.packet.TransportPart.{TransportPart}
 use Rattle.slicer.specs.declared.options.OptionsPart.{OptionsPart}
 use Rattle.slicer.specs.Options.{optionsOf}
-use Rattle.steps.specs.declared.list.HeaderAnswer.{HeaderAnswer}
-use Rattle.steps.specs.declared.list.CountAnswer.{CountAnswer}
 use Rattle.steps.specs.declared.place.Step.{Step}
 use Rattle.slicer.specs.Reply.{packetOnPaper, replyOf}
 use Rattle.steps.specs.Places.{stepOnPaper, stepSays}
@@ -41,127 +57,222 @@ use Rattle.tcp_options.specs.Options.{options, optionOf}
 use Rattle.tcp_options.specs.Paper.{optionOnPaper}
 use Rattle.tcp_options.specs.Settled.{settled}
 use Rattle.chain.specs.Answers.{Sliced, HeaderIs, CountIs, ListIs}
-use Rattle.chain.specs.Back.{settled-by, refusal-back, link-back, ip-back, ext-back, transport-back, packet-back, header-back, count-back, step-back, turn-back}
+use Rattle.chain.specs.Back.{settled-by, stop-back, refusal-back, link-back, ip-back, ext-back, transport-back}
+use Rattle.chain.specs.Back.{link-at-back, ip-at-back, ext-at-back, transport-at-back, link-turn-back, transport-turn-back}
+use Rattle.chain.specs.Back.{packet-back, header-back, count-back, step-back}
+
+-- no two answers satisfy the contract
+abbrev pub Settles : {A : Type 0} → (A → Type 0) → Type 0
+Settles {A} contract = (x y : A) → contract x → contract y → x ≡ y
 
 -- an answer that is said to equal a value is settled
 same-value : {A : Type 0} {x y z : A} → x ≡ z → y ≡ z → x ≡ y
 same-value e f = e ∙ sym f
 
--- ---- crate rules: Fault::at. Its other public functions say what they return by `r ≡ ..`.
+-- ---- crate rules: Fault::at
 
-pub fault-at : (self : Fault) (offset : ℕ) (room : RoomSource) {x y : Refusal}
-    → refusalOnPaper x ≡ placed (faultOnPaper self) offset room → refusalOnPaper y ≡ placed (faultOnPaper self) offset room → x ≡ y
-fault-at self offset room = settled-by refusal-back
+pub fault-at : (self : Fault) (offset : ℕ) (room : RoomSource) → Settles (λ (r : Refusal). refusalOnPaper r ≡ placed (faultOnPaper self) offset room)
+fault-at self offset room x y e f = settled-by refusal-back e f
 
--- ---- crate headers, w the bytes that the reader is handed
+-- ---- crate headers, w the bytes that the reader is handed. Its contracts speak of every IP version v; there is one.
 
-pub read-ethernet2 : (w : List ℕ) {x y : LinkRead} → linkOnPaper x ≡ linkSays K.Ethernet2 w → linkOnPaper y ≡ linkSays K.Ethernet2 w → x ≡ y
-read-ethernet2 w = settled-by link-back
+pub read-ethernet2 : (w : List ℕ) → Settles (λ (r : LinkRead). (v : ℕ) → linkOnPaper r ≡ linkSays K.Ethernet2 v w)
+read-ethernet2 w x y e f = settled-by link-back (e 0) (f 0)
 
-pub read-vlan : (w : List ℕ) {x y : LinkRead} → linkOnPaper x ≡ linkSays K.Vlan w → linkOnPaper y ≡ linkSays K.Vlan w → x ≡ y
-read-vlan w = settled-by link-back
+pub read-vlan : (w : List ℕ) → Settles (λ (r : LinkRead). (v : ℕ) → linkOnPaper r ≡ linkSays K.Vlan v w)
+read-vlan w x y e f = settled-by link-back (e 0) (f 0)
 
-pub read-ipv4 : (w : List ℕ) {x y : IpRead} → ipOnPaper x ≡ ipSays K.Ipv4 w → ipOnPaper y ≡ ipSays K.Ipv4 w → x ≡ y
-read-ipv4 w = settled-by ip-back
+pub read-ipv4 : (w : List ℕ) → Settles (λ (r : IpRead). (v : ℕ) → ipOnPaper r ≡ ipSays K.Ipv4 v w)
+read-ipv4 w x y e f = settled-by ip-back (e 0) (f 0)
 
-pub read-ipv6 : (w : List ℕ) {x y : IpRead} → ipOnPaper x ≡ ipSays K.Ipv6 w → ipOnPaper y ≡ ipSays K.Ipv6 w → x ≡ y
-read-ipv6 w = settled-by ip-back
+pub read-ipv6 : (w : List ℕ) → Settles (λ (r : IpRead). (v : ℕ) → ipOnPaper r ≡ ipSays K.Ipv6 v w)
+read-ipv6 w x y e f = settled-by ip-back (e 0) (f 0)
 
-pub read-auth : (w : List ℕ) {x y : ExtRead} → extOnPaper x ≡ extSays K.Auth w → extOnPaper y ≡ extSays K.Auth w → x ≡ y
-read-auth w = settled-by ext-back
+pub read-auth : (w : List ℕ) → Settles (λ (r : ExtRead). (v : ℕ) → extOnPaper r ≡ extSays K.Auth v w)
+read-auth w x y e f = settled-by ext-back (e 0) (f 0)
 
-pub read-fragment : (w : List ℕ) {x y : ExtRead} → extOnPaper x ≡ extSays K.Fragment w → extOnPaper y ≡ extSays K.Fragment w → x ≡ y
-read-fragment w = settled-by ext-back
+pub read-fragment : (w : List ℕ) → Settles (λ (r : ExtRead). (v : ℕ) → extOnPaper r ≡ extSays K.Fragment v w)
+read-fragment w x y e f = settled-by ext-back (e 0) (f 0)
 
-pub read-raw-ext : (w : List ℕ) (kind : Kind) {x y : ExtRead} → extOnPaper x ≡ rawSays kind w → extOnPaper y ≡ rawSays kind w → x ≡ y
-read-raw-ext w kind = settled-by ext-back
+pub read-raw-ext : (w : List ℕ) (kind : Kind) → Settles (λ (r : ExtRead). (v : ℕ) → extOnPaper r ≡ rawSays kind v w)
+read-raw-ext w kind x y e f = settled-by ext-back (e 0) (f 0)
 
-pub read-udp : (w : List ℕ) {x y : TransportRead} → transportOnPaper x ≡ udpSays w → transportOnPaper y ≡ udpSays w → x ≡ y
-read-udp w = settled-by transport-back
+pub read-udp : (w : List ℕ) → Settles (λ (r : TransportRead). (v : ℕ) → transportOnPaper r ≡ udpSays v w)
+read-udp w x y e f = settled-by transport-back (e 0) (f 0)
 
-pub read-tcp : (w : List ℕ) {x y : TransportRead} → transportOnPaper x ≡ tcpSays w → transportOnPaper y ≡ tcpSays w → x ≡ y
-read-tcp w = settled-by transport-back
+pub read-tcp : (w : List ℕ) → Settles (λ (r : TransportRead). (v : ℕ) → transportOnPaper r ≡ tcpSays v w)
+read-tcp w x y e f = settled-by transport-back (e 0) (f 0)
 
--- ---- crate turns: the refusal of a reader's answer, and where a number leads
+-- ---- crate one_header: a reader's answer at a place. ext_turn, opens_auth and the methods `kind` and `turn` say `r ≡ ..`.
 
-pub refuse-link : (a : LinkRead) (offset : ℕ) (room : RoomSource) {x y : Refusal} → refusalOnPaper x ≡ rowAt (linkOnPaper a) offset room → refusalOnPaper y ≡ rowAt (linkOnPaper a) offset room → x ≡ y
-refuse-link a offset room = settled-by refusal-back
+module _ (w : List ℕ) (at : ℕ) (source : RoomSource) where
+  pub ethernet2-at : Settles (λ (r : LinkAt). (v : ℕ) → linkAtOnPaper r ≡ placing (linkSays K.Ethernet2 v w) at source)
+  ethernet2-at x y e f = settled-by link-at-back (e 0) (f 0)
 
-pub refuse-ip : (a : IpRead) (offset : ℕ) (room : RoomSource) {x y : Refusal} → refusalOnPaper x ≡ rowAt (ipOnPaper a) offset room → refusalOnPaper y ≡ rowAt (ipOnPaper a) offset room → x ≡ y
-refuse-ip a offset room = settled-by refusal-back
+  pub vlan-at : Settles (λ (r : LinkAt). (v : ℕ) → linkAtOnPaper r ≡ placing (linkSays K.Vlan v w) at source)
+  vlan-at x y e f = settled-by link-at-back (e 0) (f 0)
 
-pub refuse-ext : (a : ExtRead) (offset : ℕ) (room : RoomSource) {x y : Refusal} → refusalOnPaper x ≡ rowAt (extOnPaper a) offset room → refusalOnPaper y ≡ rowAt (extOnPaper a) offset room → x ≡ y
-refuse-ext a offset room = settled-by refusal-back
+  pub ipv4-at : Settles (λ (r : IpAt). (v : ℕ) → ipAtOnPaper r ≡ placing (over (λ x. setting x (length w) S.Ipv4 source) (ipSays K.Ipv4 v w)) at source)
+  ipv4-at x y e f = settled-by ip-at-back (e 0) (f 0)
 
-pub refuse-transport : (a : TransportRead) (offset : ℕ) (room : RoomSource) {x y : Refusal} → refusalOnPaper x ≡ rowAt (transportOnPaper a) offset room → refusalOnPaper y ≡ rowAt (transportOnPaper a) offset room → x ≡ y
-refuse-transport a offset room = settled-by refusal-back
+  pub ipv6-at : Settles (λ (r : IpAt). (v : ℕ) → ipAtOnPaper r ≡ placing (over (λ x. setting x (length w) S.Ipv6 source) (ipSays K.Ipv6 v w)) at source)
+  ipv6-at x y e f = settled-by ip-at-back (e 0) (f 0)
 
--- the contract of a turn speaks of every room with these tags or this mark; there is one
+  pub ext-at : (kind : ExtKind) → Settles (λ (r : ExtAt). (v : ℕ) → extAtOnPaper r ≡ placing (extSays (extKindOf kind) v w) at source)
+  ext-at kind x y e f = settled-by ext-at-back (e 0) (f 0)
+
+  pub udp-at : Settles (λ (r : TransportAt). (v : ℕ) → transportAtOnPaper r ≡ placing (udpSays v w) at source)
+  udp-at x y e f = settled-by transport-at-back (e 0) (f 0)
+
+  pub tcp-at : Settles (λ (r : TransportAt). (v : ℕ) → transportAtOnPaper r ≡ placing (tcpSays v w) at source)
+  tcp-at x y e f = settled-by transport-at-back (e 0) (f 0)
+
+-- where a number leads. The contract of a turn speaks of every room with these tags or this mark; there is one.
 anyRoom : (tags : ℕ) → Bool → Room
-anyRoom tags mark = record { end = 0; tags = tags; version = 0; ips = 0; source = S.Slice; mark = mark }
+anyRoom tags mark = room 0 tags 0 0 S.Slice mark
 
-pub link-turn : (n tags : ℕ) {x y : Turn} → ((p : Room) → p .tags ≡ tags → turnOnPaper x ≡ link p n) → ((p : Room) → p .tags ≡ tags → turnOnPaper y ≡ link p n) → x ≡ y
+pub link-turn : (n tags : ℕ) → Settles (λ (r : LinkTurn). (p : Room) → p .tags ≡ tags → linkTurnOnPaper r ≡ link p n)
 unfolding anyRoom
-link-turn n tags e f = settled-by turn-back (e (anyRoom tags false) refl) (f (anyRoom tags false) refl)
+link-turn n tags x y e f = settled-by link-turn-back (e (anyRoom tags false) refl) (f (anyRoom tags false) refl)
 
-pub transport-turn : (n : ℕ) (mark : Bool) {x y : Turn} → ((p : Room) → p .mark ≡ mark → turnOnPaper x ≡ transport p n) → ((p : Room) → p .mark ≡ mark → turnOnPaper y ≡ transport p n) → x ≡ y
+pub transport-turn : (n : ℕ) (mark : Bool) → Settles (λ (r : TransportTurn). (p : Room) → p .mark ≡ mark → transportTurnOnPaper r ≡ transport p n)
 unfolding anyRoom
-transport-turn n mark e f = settled-by turn-back (e (anyRoom 0 mark) refl) (f (anyRoom 0 mark) refl)
+transport-turn n mark x y e f = settled-by transport-turn-back (e (anyRoom 0 mark) refl) (f (anyRoom 0 mark) refl)
 
-pub chain4-turn : (n : ℕ) (mark : Bool) {x y : Turn} → ((p : Room) → p .mark ≡ mark → turnOnPaper x ≡ chain4 p n) → ((p : Room) → p .mark ≡ mark → turnOnPaper y ≡ chain4 p n) → x ≡ y
-unfolding anyRoom
-chain4-turn n mark e f = settled-by turn-back (e (anyRoom 0 mark) refl) (f (anyRoom 0 mark) refl)
+-- ---- crate one_header: header_at, whose contract leaves two fields of a whole header open, `number` and `to`. It says what the header
+-- does to the walk (headerReadOnPaper), and `follow` takes the number and the payload's end only to a stop:
+-- - where the walk goes on, or a late hop-by-hop number ends it, `number` and `to` may be any;
+-- - where it stops, `number` is settled, but of `to` only the payload's length shows: one that is not past `len` may be any such.
+-- All other fields are settled, and a refusal is settled whole.
 
-pub chain6-turn : (n : ℕ) (first mark : Bool) {x y : Turn} → ((p : Room) → p .mark ≡ mark → turnOnPaper x ≡ chain6 first p n) → ((p : Room) → p .mark ≡ mark → turnOnPaper y ≡ chain6 first p n) → x ≡ y
-unfolding anyRoom
-chain6-turn n first mark e f = settled-by turn-back (e (anyRoom 0 mark) refl) (f (anyRoom 0 mark) refl)
+pub record SameFound (x y : HeaderFound) : Type 0 where
+  pub len : x .len ≡ y .len
+  pub end : x .end ≡ y .end
+  pub version : x .version ≡ y .version
+  pub turn : x .turn ≡ y .turn
+  pub source : x .source ≡ y .source
+  pub mark : x .mark ≡ y .mark
+  pub number : (stop : Stop) → x .turn ≡ T.Stops stop → x .number ≡ y .number
+  pub payload : (stop : Stop) → x .turn ≡ T.Stops stop → x .to - x .len ≡ y .to - y .len
+
+abbrev pub SameRead : HeaderRead → HeaderRead → Type 0
+SameRead (D.Whole x) (D.Whole y) = SameFound x y
+SameRead (D.Refused q) (D.Refused r) = q ≡ r
+SameRead (D.Whole x) (D.Refused r) = ⊥
+SameRead (D.Refused q) (D.Whole y) = ⊥
+
+-- what follows the header, by a turn
+abbrev followsAt : ℕ → Room → HeaderFound → Turn → Follow
+followsAt at p x t = follow t (leftBy x at p) (at + x .len) (x .number) (at + x .to)
+
+unnext : {a b : Place} → W.next a ≡ W.next b → a ≡ b
+unnext e = cc
+
+unhalt : {a b : Stopped} → halt a ≡ halt b → a ≡ b
+unhalt e = cc
+
+module _ (at : ℕ) (p : Room) (x y : HeaderFound) where
+  -- that shows the turn
+  same-turn : (t u : Turn) → followsAt at p x t ≡ followsAt at p y u → t ≡ u
+  unfolding follow
+  same-turn (T.Opens k) (T.Opens l) e = ap (λ (z : Place). T.Opens (z .kind)) (unnext e)
+  same-turn (T.Stops s) (T.Stops r) e = ap T.Stops (settled-by stop-back (ap (λ (z : Stopped). z .why) (unhalt e)) refl)
+  same-turn T.LateHopByHop T.LateHopByHop e = refl
+  same-turn (T.Opens k) (T.Stops r) e = cc
+  same-turn (T.Opens k) T.LateHopByHop e = cc
+  same-turn (T.Stops s) (T.Opens l) e = cc
+  same-turn (T.Stops s) T.LateHopByHop e = cc
+  same-turn T.LateHopByHop (T.Opens l) e = cc
+  same-turn T.LateHopByHop (T.Stops r) e = cc
+
+  -- and where it is a stop, the number and the payload's length
+  same-stop : (stop : Stop) → followsAt at p x (T.Stops stop) ≡ followsAt at p y (T.Stops stop)
+      → (x .number ≡ y .number) × (x .to - x .len ≡ y .to - y .len)
+  unfolding follow
+  same-stop stop e = (ap (λ (z : Stopped). z .number) (unhalt e), omega (arith, ap (λ (z : Stopped). z .len) (unhalt e)))
+
+  same-found : foundOnPaper x at p ≡ foundOnPaper y at p → SameFound x y
+  same-found e =
+      let left = ap (λ (z : Found). z .room) e in
+      let on = ap (λ (z : Found). z .follow) e in
+      let turns = same-turn (x .turn) (y .turn) on in
+      record {
+        len = ap (λ (z : Found). z .len) e;
+        end = omega (arith, ap (λ (r : Room). r .end) left);
+        version = ap (λ (r : Room). r .version) left;
+        turn = turns;
+        source = ap (λ (r : Room). r .source) left;
+        mark = ap (λ (r : Room). r .mark) left;
+        number = λ stop q. stopped stop q turns on .0;
+        payload = λ stop q. stopped stop q turns on .1;
+      }
+    where
+      stopped : (stop : Stop) → x .turn ≡ T.Stops stop → x .turn ≡ y .turn → followsAt at p x (x .turn) ≡ followsAt at p y (y .turn)
+          → (x .number ≡ y .number) × (x .to - x .len ≡ y .to - y .len)
+      stopped stop q t e = same-stop stop (ap (followsAt at p x) (sym q) ∙ e ∙ ap (followsAt at p y) (sym t ∙ q))
+
+pub header-at : (w : List ℕ) (kind : Kind) (at : ℕ) (p : Room) (x y : HeaderRead)
+    → headerReadOnPaper x at p ≡ readPart w kind at p → headerReadOnPaper y at p ≡ readPart w kind at p → SameRead x y
+header-at w kind at p x y e f = go x y (e ∙ sym f)
+  where
+    unread : {a b : Found} → reads a ≡ reads b → a ≡ b
+    unread e = cc
+
+    unrefuse : {a b : Row} → refuses a ≡ refuses b → a ≡ b
+    unrefuse e = cc
+
+    go : (x y : HeaderRead) → headerReadOnPaper x at p ≡ headerReadOnPaper y at p → SameRead x y
+    go (D.Whole x) (D.Whole y) e = same-found at p x y (unread e)
+    go (D.Refused q) (D.Refused r) e = settled-by refusal-back (unrefuse e) refl
+    go (D.Whole x) (D.Refused r) e = let z : _≡_ {A = ℕ} 0 1 = cc in omega arith
+    go (D.Refused q) (D.Whole y) e = let z : _≡_ {A = ℕ} 0 1 = cc in omega arith
 
 -- ---- the slicer: the reply with the unused slots of its tags
 
-pub slice : (entry : Entry) (s : List ℕ) {x y : SlicedPacket} → Sliced entry s x → Sliced entry s y → x ≡ y
-slice entry s = settled-by packet-back
+pub slice : (entry : Entry) (s : List ℕ) → Settles (Sliced entry s)
+slice entry s x y e f = settled-by packet-back e f
 
--- from_ethernet, from_ipv4 and from_ipv6, by their kind
-pub from-kind : (k : Kind) (s : List ℕ) {x y : SlicedPacket} → packetOnPaper x ≡ replyOf k s → packetOnPaper y ≡ replyOf k s → x ≡ y
-from-kind k s = settled-by packet-back
+-- from_ethernet, from_ipv4 and from_ipv6, by the entry of their kind
+pub from-kind : (entry : Entry) (s : List ℕ) → Settles (λ (r : SlicedPacket). packetOnPaper r ≡ replyOf entry s)
+from-kind entry s x y e f = settled-by packet-back e f
 
-pub tcp-options : (n : ℕ) (t : TransportPart) {x y : OptionsPart} → x ≡ optionsOf n t → y ≡ optionsOf n t → x ≡ y
-tcp-options n t = same-value
+pub tcp-options : (n : ℕ) (t : TransportPart) → Settles (λ (r : OptionsPart). r ≡ optionsOf n t)
+tcp-options n t x y e f = same-value e f
 
-pub header : (entry : Entry) (s : List ℕ) (k : ℕ) {x y : HeaderAnswer} → HeaderIs entry s k x → HeaderIs entry s k y → x ≡ y
-header entry s k = settled-by header-back
+pub header : (entry : Entry) (s : List ℕ) (k : ℕ) → Settles (HeaderIs entry s k)
+header entry s k x y e f = settled-by header-back e f
 
-pub count : (entry : Entry) (s : List ℕ) {x y : CountAnswer} → CountIs entry s x → CountIs entry s y → x ≡ y
-count entry s = settled-by count-back
+pub count : (entry : Entry) (s : List ℕ) → Settles (CountIs entry s)
+count entry s x y e f = settled-by count-back e f
 
 -- its answer is count's; this is what it leaves in the lent numbers
-pub headers : (entry : Entry) (s : List ℕ) (k : ℕ) (before : List ℕ) {x y : List ℕ} → ListIs entry s k before x → ListIs entry s k before y → x ≡ y
-headers entry s k before e f = e ∙ sym f
+pub headers : (entry : Entry) (s : List ℕ) (k : ℕ) (before : List ℕ) → Settles (ListIs entry s k before)
+headers entry s k before x y e f = same-value e f
 
-pub first : (entry : Entry) (s : List ℕ) {x y : Place} → x ≡ start (entryKind entry) s → y ≡ start (entryKind entry) s → x ≡ y
-first entry s = same-value
+pub first : (entry : Entry) (s : List ℕ) → Settles (λ (r : Place). W.next r ≡ opening entry s)
+first entry s x y e f = unnext (e ∙ sym f)
 
-pub next : (s : List ℕ) (p : Place) {x y : Step} → stepOnPaper x ≡ stepSays s p → stepOnPaper y ≡ stepSays s p → x ≡ y
-next s p = settled-by step-back
+pub next : (s : List ℕ) (p : Place) → Settles (λ (r : Step). stepOnPaper r ≡ stepSays s p)
+next s p x y e f = settled-by step-back e f
 
 -- ---- crate checksum: the state has one field
 
 one-field : {x y : Sum16BitWords} {n : ℕ} → x .sum ≡ n → y .sum ≡ n → x ≡ y
 one-field {x} {y} e f = let z = e ∙ sym f in λ i. record { sum = z i }
 
-pub new : {x y : Sum16BitWords} → x .sum ≡ fold (totals []) → y .sum ≡ fold (totals []) → x ≡ y
-new = one-field
+pub new : Settles (λ (r : Sum16BitWords). r .sum ≡ fold (totals []))
+new x y e f = one-field e f
 
-pub add-slice : (self : Sum16BitWords) (s : List ℕ) {x y : Sum16BitWords} → x .sum ≡ addSlice (self .sum) s → y .sum ≡ addSlice (self .sum) s → x ≡ y
-add-slice self s = one-field
+pub add-slice : (self : Sum16BitWords) (s : List ℕ) → Settles (λ (r : Sum16BitWords). r .sum ≡ addSlice (self .sum) s)
+add-slice self s x y e f = one-field e f
 
-pub ones-complement : (self : Sum16BitWords) {x y : ℕ} → x ≡ answer (self .sum) → y ≡ answer (self .sum) → x ≡ y
-ones-complement self = same-value
+pub ones-complement : (self : Sum16BitWords) → Settles (λ (r : ℕ). r ≡ answer (self .sum))
+ones-complement self x y e f = same-value e f
 
-pub to-ones-complement-with-no-zero : (self : Sum16BitWords) {x y : ℕ} → x ≡ noZero (answer (self .sum)) → y ≡ noZero (answer (self .sum)) → x ≡ y
-to-ones-complement-with-no-zero self = same-value
+pub to-ones-complement-with-no-zero : (self : Sum16BitWords) → Settles (λ (r : ℕ). r ≡ noZero (answer (self .sum)))
+to-ones-complement-with-no-zero self x y e f = same-value e f
 
 -- ---- crate tcp_options
 
-pub option : (s : List ℕ) (k : ℕ) {x y : OptionAnswer} → optionOnPaper x ≡ optionOf (options s) k → optionOnPaper y ≡ optionOf (options s) k → x ≡ y
-option s k {x} {y} = settled s k x y
+pub option : (s : List ℕ) (k : ℕ) → Settles (λ (r : OptionAnswer). optionOnPaper r ≡ optionOf (options s) k)
+option s k x y e f = settled s k x y e f

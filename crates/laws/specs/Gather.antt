@@ -7,24 +7,24 @@ use lib.ListN.{length}
 use Rattle.rules.specs.declared.place.Place.{Place}
 use Rattle.rules.specs.declared.refusal.Row.{Row}
 use Rattle.rules.specs.Place.{Follow, next, halt, wrong, Stopped, Found, reads, refuses, read}
-use Rattle.rules.specs.Walk.{Trace, accepted, refused, unfinished, Entry, entry, behind, trace, step, onward}
+use Rattle.rules.specs.Walk.{Trace, accepted, refused, unfinished, HeaderAt, headerAt, behind, trace, step, onward}
 use Rattle.laws.specs.Reads.{Ahead, goes}
 use Rattle.laws.specs.Walks.{trace-step}
 
 -- how an answer B is gathered: what each header does to the state A, the answer at a stop, the answer at a refusal
 pub record Way (A B : Type 0) : Type 0 where
-  pub put : A → Entry → A
+  pub put : A → HeaderAt → A
   pub done : A → Stopped → B
   pub bad : A → Row → B
   -- no frame gets this one
   pub never : B
 
 module _ {A B : Type 0} (w : Way A B) where
-  unfoldable pub listed : A → List Entry → A
+  unfoldable pub listed : A → List HeaderAt → A
   listed a [] = a
   listed a (e ∷ es) = listed (w .put a e) es
 
-  unfoldable pub gathered : A → Trace Entry → B
+  unfoldable pub gathered : A → Trace HeaderAt → B
   gathered a (accepted hs x) = w .done (listed a hs) x
   gathered a (refused hs r) = w .bad (listed a hs) r
   gathered a unfinished = w .never
@@ -37,7 +37,7 @@ module _ {A B : Type 0} (w : Way A B) where
   unfoldable pub rest : A → List ℕ → Follow → B
   rest a s f = gathered a (onward s f)
 
-  gathered-behind : (a : A) (e : Entry) (t : Trace Entry) → gathered a (behind e t) ≡ gathered (w .put a e) t
+  gathered-behind : (a : A) (e : HeaderAt) (t : Trace HeaderAt) → gathered a (behind e t) ≡ gathered (w .put a e) t
   unfolding gathered listed
   gathered-behind a e (accepted hs x) = refl
   gathered-behind a e (refused hs r) = refl
@@ -59,6 +59,6 @@ module _ {A B : Type 0} (w : Way A B) where
   unfolding gather gathered listed
   gather-refused a s p e = ap (gathered a) (trace-step s p) ∙ rw e
 
-  pub gather-whole : (a : A) (s : List ℕ) (p : Place) {x : Found} → read s p ≡ reads x → gather a s p ≡ rest (w .put a (entry p x)) s (x .follow)
+  pub gather-whole : (a : A) (s : List ℕ) (p : Place) {x : Found} → read s p ≡ reads x → gather a s p ≡ rest (w .put a (headerAt p x)) s (x .follow)
   unfolding gather rest
-  gather-whole a s p {x} e = ap (gathered a) (trace-step s p) ∙ rw e (gathered-behind a (entry p x) (onward s (x .follow)))
+  gather-whole a s p {x} e = ap (gathered a) (trace-step s p) ∙ rw e (gathered-behind a (headerAt p x) (onward s (x .follow)))

@@ -10,7 +10,7 @@ use Rattle.rules.specs.declared.kind.Kind.the-variants.{Ethernet2, Vlan, Ipv4, 
 use Rattle.rules.specs.declared.place.Room.{Room}
 use Rattle.rules.specs.Bytes.{number}
 use Rattle.rules.specs.Test.{pick, All}
-use Rattle.rules.specs.Rules.{rule, leastLength, lengthOf, declaredOf, marksOf, testsBy, tests}
+use Rattle.rules.specs.Rules.{rule, leastLength, lengthOf, declaredOf, fragmentOf, testsBy, tests}
 use Rattle.rules.specs.Place.{leaves}
 
 -- a header that passes has the least length of its kind, some bytes, and lies whole in what is there
@@ -90,18 +90,3 @@ nested Fragment g at p h = kept Fragment g at p refl h
 nested Auth g at p h = kept Auth g at p refl h
 nested Udp g at p h = kept Udp g at p refl h
 nested Tcp g at p h = kept Tcp g at p refl h
-
--- no test of the base asks for the IP version
-pub any-version : (k : Kind) (v w : ℕ) (g : ℕ → ℕ) (have : ℕ) → tests k v g have ≡ tests k w g have
-unfolding testsBy
-any-version Ethernet2 v w g have = refl
-any-version Vlan v w g have = refl
-any-version Ipv4 v w g have = refl
-any-version Ipv6 v w g have = refl
-any-version HopByHop v w g have = refl
-any-version Routing v w g have = refl
-any-version Destination v w g have = refl
-any-version Fragment v w g have = refl
-any-version Auth v w g have = refl
-any-version Udp v w g have = refl
-any-version Tcp v w g have = refl

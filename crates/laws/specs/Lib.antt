@@ -1,7 +1,8 @@
--- Laws of the definitions of crate rules: tests, kinds, one header at a place, the walk, and answers gathered from it.
+-- Laws of the definitions of crate rules: tests, kinds, one header at a place, how a frame opens, the walk, and answers gathered from it.
 pub mod Tests
 pub mod Kinds
 pub mod Reads
 pub mod Walks
 pub mod Gather
 pub mod Parts
+pub mod Openings

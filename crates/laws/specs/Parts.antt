@@ -12,7 +12,7 @@ use Rattle.rules.specs.Test.{whole, failed, Failure, judge, placed}
 use Rattle.rules.specs.Rules.{rule, seen, tests, says}
 use Rattle.rules.specs.Place.{place, bytes, outcome, read, reads, refuses}
 use Rattle.laws.specs.Tests.{judge-all, judge-fails}
-use Rattle.laws.specs.Kinds.{any-version, nested, sized}
+use Rattle.laws.specs.Kinds.{nested, sized}
 use Rattle.laws.specs.Reads.{foundAt, PassesAt, read-failed, read-passes}
 
 -- an offset in a room that lies in the frame
@@ -36,16 +36,16 @@ pub record Falls (s : List ℕ) (k : Kind) (at : ℕ) (p : Room) (f : Failure) :
   pub failed-at : read s (place k at p) ≡ refuses (placed f at (p .source))
 
 module _ {A : Type 0} {s : List ℕ} {k : Kind} {at : ℕ} {p : Room} (fields : (ℕ → ℕ) → ℕ → A) (h : In s at p) where
-  pub stands : {x : A} → says k (rule k) fields (part s at (p .end)) ≡ whole x → Stands s k at p × (x ≡ fields (bytes s (place k at p)) (p .end - at))
+  pub stands : {x : A} → says k (rule k) (p .version) fields (part s at (p .end)) ≡ whole x → Stands s k at p × (x ≡ fields (bytes s (place k at p)) (p .end - at))
   unfolding says bytes
   stands {x} e =
-      let z = judge-all _ _ (rw (part-length h, any-version k 0 (p .version)) at e) in
+      let z = judge-all _ _ (rw (part-length h) at e) in
       (record { passed = z .0 }, sym (z .1))
 
-  pub falls : {f : Failure} → says k (rule k) fields (part s at (p .end)) ≡ failed f → Falls s k at p f
+  pub falls : {f : Failure} → says k (rule k) (p .version) fields (part s at (p .end)) ≡ failed f → Falls s k at p f
   unfolding says bytes outcome
   falls {f} e =
-      record { failed-at = read-failed s (place k at p) (judge-fails _ _ _ (rw (part-length h, any-version k 0 (p .version)) at e)) }
+      record { failed-at = read-failed s (place k at p) (judge-fails _ _ _ (rw (part-length h) at e)) }
 
 module _ {s : List ℕ} {k : Kind} {at : ℕ} {p : Room} (t : Stands s k at p) where
   pub reads-it : read s (place k at p) ≡ reads (foundAt s (place k at p))

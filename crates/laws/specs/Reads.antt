@@ -7,9 +7,11 @@ use Rattle.rules.specs.declared.kind.RoomSource.{RoomSource}
 use Rattle.rules.specs.declared.place.Number.{Number}
 use Rattle.rules.specs.declared.place.Place.{Place}
 use Rattle.rules.specs.declared.place.Room.{Room}
-use Rattle.rules.specs.Test.{All, Outcome, whole, failed, Failure, judge, placed}
-use Rattle.rules.specs.Rules.{Turn, opens, stops, late, tests, lengthOf, turnOf}
-use Rattle.rules.specs.Place.{entered, leaves, Follow, next, halt, wrong, follow, followOf, Found, foundBy, Reading, reads, refuses, settle, bytes, outcome, read, place}
+use Rattle.rules.specs.Test.{All, Verdict, whole, failed, Failure, judge, placed}
+use Rattle.rules.specs.declared.turn.Turn.{Turn}
+use Rattle.rules.specs.declared.turn.Turn.the-variants.{Opens, Stops, LateHopByHop}
+use Rattle.rules.specs.Rules.{tests, lengthOf, turnOf}
+use Rattle.rules.specs.Place.{entered, leaves, Follow, next, halt, wrong, follow, followOf, Found, foundBy, PlaceRead, reads, refuses, settle, bytes, outcome, read, place}
 use Rattle.laws.specs.Tests.{judge-pass, judge-all}
 use Rattle.laws.specs.Kinds.{Passes, Sized, sized, Nested, nested}
 
@@ -32,7 +34,7 @@ pub read-passes : (s : List ℕ) (p : Place) → PassesAt s p → read s p ≡ r
 unfolding outcome
 read-passes s p h = read-whole s p (judge-pass _ _ h)
 
-settle-reads : (v : Outcome Found) (at : ℕ) (source : RoomSource) {x : Found} → settle v at source ≡ reads x → v ≡ whole x
+settle-reads : (v : Verdict Found) (at : ℕ) (source : RoomSource) {x : Found} → settle v at source ≡ reads x → v ≡ whole x
 settle-reads (whole y) at source e = cc
 settle-reads (failed f) at source e = cc
 
@@ -51,16 +53,16 @@ parts s p e = let z = judge-all _ _ (settle-reads _ _ _ e) in record { passed = 
 pub record Onto (t : Turn) (p : Room) (past : ℕ) (q : Place) : Type 0 where
   pub begins : q .at ≡ past
   pub kept : q .room .end ≡ p .end
-  pub opened : t ≡ opens (q .kind)
+  pub opened : t ≡ Opens (q .kind)
   pub entering : q .room ≡ entered (q .kind) p
 
 pub onto : (t : Turn) (p : Room) (past : ℕ) (n : Number) (to : ℕ) {q : Place} → follow t p past n to ≡ next q → Onto t p past q
 unfolding follow
-onto (opens k) p past n to {q} e =
+onto (Opens k) p past n to {q} e =
     let z : q ≡ place k past (entered k p) = cc in
     record { begins = ap (λ (y : Place). y .at) z; kept = ap (λ (y : Place). y .room .end) z; opened = cc; entering = cc }
-onto (stops w) p past n to e = record { begins = cc; kept = cc; opened = cc; entering = cc }
-onto late p past n to e = record { begins = cc; kept = cc; opened = cc; entering = cc }
+onto (Stops w) p past n to e = record { begins = cc; kept = cc; opened = cc; entering = cc }
+onto LateHopByHop p past n to e = record { begins = cc; kept = cc; opened = cc; entering = cc }
 
 -- the walk goes ahead, and stays inside the room
 pub record Ahead (s : List ℕ) (p q : Place) : Type 0 where

@@ -5,7 +5,7 @@ use mathlib.Core.List.{List, [], _∷_}
 use mathlib.Core.Bool.{Bool, true, false}
 use native.Mathlib.Omega.{arith}
 use borrow.Author.Tests.{leb-true, eqb-true}
-use Rattle.rules.specs.Test.{pick, Test, fits, least, same, Holds, passes, failure, Failure, Outcome, whole, failed, All, judge, pass}
+use Rattle.rules.specs.Test.{pick, Test, fits, least, same, Holds, passes, failure, Failure, Verdict, whole, failed, All, judge, pass}
 
 pub holds : (t : Test) → passes t ≡ true → Holds t
 holds (fits l a b w) e = leb-true a b e

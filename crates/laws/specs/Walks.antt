@@ -5,19 +5,19 @@ use mathlib.Core.List.{List, [], _∷_, map}
 use native.Mathlib.Omega.{arith}
 use lib.ListN.{length}
 use Rattle.rules.specs.declared.place.Place.{Place}
-use Rattle.rules.specs.Place.{Follow, next, halt, wrong, Found, Reading, reads, refuses, read}
-use Rattle.rules.specs.Walk.{Trace, accepted, refused, unfinished, Entry, entry, behind, onwardBy, step, walk, trace, header, nth, no-more}
+use Rattle.rules.specs.Place.{Follow, next, halt, wrong, Found, PlaceRead, reads, refuses, read}
+use Rattle.rules.specs.Walk.{Trace, accepted, refused, unfinished, HeaderAt, headerAt, behind, onwardBy, step, walk, trace, header, nth, no-more}
 use Rattle.laws.specs.Reads.{goes}
 
-onward-same : (x : Follow) (f g : Place → Trace Entry) → ((q : Place) → x ≡ next q → f q ≡ g q) → onwardBy f x ≡ onwardBy g x
+onward-same : (x : Follow) (f g : Place → Trace HeaderAt) → ((q : Place) → x ≡ next q → f q ≡ g q) → onwardBy f x ≡ onwardBy g x
 onward-same (next q) f g h = h q refl
 onward-same (halt x) f g h = refl
 onward-same (wrong r) f g h = refl
 
 -- two walks that agree behind every next place agree
-pub step-same : (p : Place) (r : Reading) (f g : Place → Trace Entry) → ((x : Found) (q : Place) → r ≡ reads x → x .follow ≡ next q → f q ≡ g q) → step p r f ≡ step p r g
+pub step-same : (p : Place) (r : PlaceRead) (f g : Place → Trace HeaderAt) → ((x : Found) (q : Place) → r ≡ reads x → x .follow ≡ next q → f q ≡ g q) → step p r f ≡ step p r g
 step-same p (refuses r) f g h = refl
-step-same p (reads x) f g h = ap (behind (entry p x)) (onward-same (x .follow) f g (λ q e. h x q refl e))
+step-same p (reads x) f g h = ap (behind (headerAt p x)) (onward-same (x .follow) f g (λ q e. h x q refl e))
 
 enough : (n m : ℕ) (s : List ℕ) (p : Place) → p .room .end - p .at < n → p .room .end - p .at < m → walk n s p ≡ walk m s p
 unfolding walk
@@ -39,12 +39,12 @@ behind-ends h (accepted hs x) e = cc
 behind-ends h (refused hs r) e = cc
 behind-ends h unfinished e = refl
 
-onward-ends : (x : Follow) (go : Place → Trace Entry) → ((q : Place) → x ≡ next q → go q ≡ unfinished → ⊥) → onwardBy go x ≡ unfinished → ⊥
+onward-ends : (x : Follow) (go : Place → Trace HeaderAt) → ((q : Place) → x ≡ next q → go q ≡ unfinished → ⊥) → onwardBy go x ≡ unfinished → ⊥
 onward-ends (next q) go f e = f q refl e
 onward-ends (halt x) go f e = let z : _≡_ {A = ℕ} 0 1 = cc in omega arith
 onward-ends (wrong r) go f e = let z : _≡_ {A = ℕ} 0 1 = cc in omega arith
 
-step-ends : (p : Place) (r : Reading) (go : Place → Trace Entry) → ((x : Found) (q : Place) → r ≡ reads x → x .follow ≡ next q → go q ≡ unfinished → ⊥) → step p r go ≡ unfinished → ⊥
+step-ends : (p : Place) (r : PlaceRead) (go : Place → Trace HeaderAt) → ((x : Found) (q : Place) → r ≡ reads x → x .follow ≡ next q → go q ≡ unfinished → ⊥) → step p r go ≡ unfinished → ⊥
 step-ends p (refuses r) go f e = let z : _≡_ {A = ℕ} 0 1 = cc in omega arith
 step-ends p (reads x) go f e = onward-ends (x .follow) go (λ q w. f x q refl w) (behind-ends _ _ e)
 
@@ -59,7 +59,7 @@ unfolding trace
 finished s p = walk-ends (suc (p .room .end - p .at)) s p (omega arith)
 
 -- past the last header there is no more
-pub nth-past : (hs : List Entry) (k : ℕ) → length hs ≤ k → nth (map header hs) k ≡ no-more
+pub nth-past : (hs : List HeaderAt) (k : ℕ) → length hs ≤ k → nth (map header hs) k ≡ no-more
 nth-past [] k h = refl
 nth-past (e ∷ hs) zero h = absurd (omega arith)
 nth-past (e ∷ hs) (suc k) h = nth-past hs k (omega arith)

@@ -5,16 +5,14 @@ use Prim.Native.String.{String, [] as no-text, _∷_ as _then_}
 use mathlib.Core.List.{List, [], _∷_, _++_}
 use lib.Dec.{ltb, eqb}
 use lib.ListN.{getD}
-use Rattle.rules.specs.declared.kind.Kind.{Kind}
-use Rattle.rules.specs.declared.kind.Kind.the-variants.{Ethernet2, Vlan, Ipv4, Ipv6, HopByHop, Routing, Destination, Fragment, Auth, Udp, Tcp}
-use Rattle.rules.specs.declared.kind.Layer.{Layer}
-use Rattle.rules.specs.declared.kind.Layer.the-variants.{Of, Ipv4Packet, Ipv6Packet, UdpPayload}
+use Rattle.rules.specs.declared.entry.Entry.{Entry}
 use Rattle.rules.specs.declared.refusal.Row.{Row}
 use Rattle.rules.specs.Numbers.{tooShort, hopByHopNotAtStart, authLengthZero}
+use Rattle.rules.specs.Named.{kindNumber}
 use Rattle.rules.specs.Test.{pick}
 use Rattle.rules.specs.Rules.{isOneOf}
 use Rattle.rules.specs.Place.{Stopped}
-use Rattle.rules.specs.Walk.{Trace, accepted, refused, unfinished, Entry, slices}
+use Rattle.rules.specs.Walk.{Trace, accepted, refused, unfinished, HeaderAt, slices}
 
 -- ---- words
 
@@ -49,26 +47,24 @@ line (w ∷ v ∷ ws) = w ++ (space ∷ line (v ∷ ws))
 
 -- ---- names
 
--- "header names .. ethernet2, vlan, ipv4, ipv6, hop-by-hop, routing, destination, fragment, auth, udp, tcp"
-abbrev pub kindName : Kind → List ℕ
-kindName Ethernet2 = ascii "ethernet2"
-kindName Vlan = ascii "vlan"
-kindName Ipv4 = ascii "ipv4"
-kindName Ipv6 = ascii "ipv6"
-kindName HopByHop = ascii "hop-by-hop"
-kindName Routing = ascii "routing"
-kindName Destination = ascii "destination"
-kindName Fragment = ascii "fragment"
-kindName Auth = ascii "auth"
-kindName Udp = ascii "udp"
-kindName Tcp = ascii "tcp"
-
--- "Layers add ipv4-packet, ipv6-packet, udp-payload"
-abbrev pub layerName : Layer → List ℕ
-layerName (Of k) = kindName k
-layerName Ipv4Packet = ascii "ipv4-packet"
-layerName Ipv6Packet = ascii "ipv6-packet"
-layerName UdpPayload = ascii "udp-payload"
+-- by the paper's numbers of header kinds and layers: "header names .. ethernet2, vlan, ipv4, ipv6, hop-by-hop, routing, destination,
+-- fragment, auth, udp, tcp"; "Layers add ipv4-packet, ipv6-packet, udp-payload". The last one stands for every number that is left.
+abbrev pub nameOf : ℕ → List ℕ
+nameOf n =
+    pick (eqb n 1) (ascii "ethernet2")
+    (pick (eqb n 2) (ascii "vlan")
+    (pick (eqb n 3) (ascii "ipv4")
+    (pick (eqb n 4) (ascii "ipv6")
+    (pick (eqb n 5) (ascii "hop-by-hop")
+    (pick (eqb n 6) (ascii "routing")
+    (pick (eqb n 7) (ascii "destination")
+    (pick (eqb n 8) (ascii "fragment")
+    (pick (eqb n 9) (ascii "auth")
+    (pick (eqb n 10) (ascii "udp")
+    (pick (eqb n 11) (ascii "tcp")
+    (pick (eqb n 13) (ascii "ipv4-packet")
+    (pick (eqb n 14) (ascii "ipv6-packet")
+    (ascii "udp-payload")))))))))))))
 
 -- "sources are slice, ipv4, ipv6, udp", by their numbers 1 to 4
 abbrev pub sourceName : ℕ → List ℕ
@@ -76,13 +72,17 @@ sourceName n = pick (eqb n 1) (ascii "slice") (pick (eqb n 2) (ascii "ipv4") (pi
 
 -- ---- lines
 
--- `NAME OFFSET LENGTH`
-unfoldable pub headerLine : Kind → (offset length : ℕ) → List ℕ
-headerLine k offset length = line (kindName k ∷ decimal offset ∷ decimal length ∷ [])
+-- `NAME OFFSET LENGTH`, by the kind's number
+unfoldable pub headerLine : (kind offset length : ℕ) → List ℕ
+headerLine kind offset length = line (nameOf kind ∷ decimal offset ∷ decimal length ∷ [])
 
-unfoldable pub headerLines : List Entry → List ℕ
+-- the line of a header met
+abbrev pub lineOf : HeaderAt → List ℕ
+lineOf h = headerLine (kindNumber (h .kind)) (h .at) (h .len)
+
+unfoldable pub headerLines : List HeaderAt → List ℕ
 headerLines [] = []
-headerLines (e ∷ es) = headerLine (e .kind) (e .at) (e .len) ++ headerLines es
+headerLines (h ∷ hs) = lineOf h ++ headerLines hs
 
 -- `payload OFFSET LENGTH`
 unfoldable pub payloadLine : (offset length : ℕ) → List ℕ
@@ -110,21 +110,21 @@ carried n values =
 -- "Refusals 2 to 7 print `refused`, number, layer, offset and the value if they carry one."
 unfoldable pub refusedLine : Row → List ℕ
 refusedLine r =
-    line (ascii "refused" ∷ decimal (r .number) ∷ layerName (r .layer) ∷ decimal (r .offset) ∷ carried (r .number) (r .values))
+    line (ascii "refused" ∷ decimal (r .number) ∷ nameOf (r .layer) ∷ decimal (r .offset) ∷ carried (r .number) (r .values))
 
 -- ---- the whole text
 
 -- an accepted frame: its headers, its payload and why the walk stopped; a refused one: its refusal and nothing else
-unfoldable pub text : Trace Entry → List ℕ
+unfoldable pub text : Trace HeaderAt → List ℕ
 text (accepted hs x) = headerLines hs ++ endingLines x
 text (refused hs r) = refusedLine r
 text unfinished = []
 
--- of a frame s whose first header is of kind k
-abbrev pub textOf : Kind → List ℕ → List ℕ
-textOf k s = text (slices k s)
+-- of a frame, by its entry
+abbrev pub textOf : Entry → List ℕ → List ℕ
+textOf e s = text (slices e s)
 
 -- ---- for code that has to know that a frame is accepted before it prints its headers
 
-pub data Accepts : Trace Entry → Type 0 where
-  accepts : {hs : List Entry} {x : Stopped} → Accepts (accepted hs x)
+pub data Accepts : Trace HeaderAt → Type 0 where
+  accepts : {hs : List HeaderAt} {x : Stopped} → Accepts (accepted hs x)

@@ -1,6 +1,5 @@
 // A frame's reply as the program prints it: the text of specs/Text.antt, written into a lent buffer.
 ghost use mathlib.Core.Path.{_≡_};
-ghost use Rattle.rules.specs.Place.{entryKind};
 ghost use Rattle.rules.specs.Walk.{slices};
 ghost use Rattle.slicer.specs.Reply.{outcomeOnPaper, replyOf};
 ghost use Rattle.printing.specs.Text.{textOf, Accepts};
@@ -20,24 +19,25 @@ mod write;
 
 // The text of an accepted frame: a line for each header, from place to place, and the lines of the ending.
 fn accepted_lines(out: &mut [u8], s: &[u8], entry: Entry) -> usize
-    requires { ⌜ Accepts (slices (entryKind entry) (now s)) ⌝ }
-    ensures { λ r. ⌜ Wrote (textOf (entryKind entry) (now (s .entry))) (now (out .entry)) 0 (now (out .exit)) r ⌝ }
+    requires { ⌜ Accepts (slices entry (now s)) ⌝ }
+    ensures { λ r. ⌜ Wrote (textOf entry (now (s .entry))) (now (out .entry)) 0 (now (out .exit)) r ⌝ }
 {
     let mut at: usize = 0;
     let mut place = first(s, entry);
     loop {
         let step = next(s, place);
         let kind = place.kind;
+        let number = kind.number();
         match step {
             Step::Next {
                 len,
                 place: following,
             } => {
-                at = header_line(out, at, kind, place.at, len);
+                at = header_line(out, at, number, place.at, len);
                 place = following;
             }
             Step::Last { len, ending } => {
-                let past = header_line(out, at, kind, place.at, len);
+                let past = header_line(out, at, number, place.at, len);
                 return ending_lines(out, past, ending);
             }
             // An accepted frame has neither of these.
@@ -53,7 +53,7 @@ fn accepted_lines(out: &mut [u8], s: &[u8], entry: Entry) -> usize
 
 // How the frame's reply ends. The rest of the reply, a large value, is left here.
 fn outcome(s: &[u8], entry: Entry) -> Outcome
-    ensures { λ r. ⌜ outcomeOnPaper r ≡ replyOf (entryKind entry) (now (s .entry)) .ended ⌝ }
+    ensures { λ r. ⌜ outcomeOnPaper r ≡ replyOf entry (now (s .entry)) .ended ⌝ }
 {
     let reply = slice(s, entry);
     reply.outcome
@@ -62,8 +62,8 @@ fn outcome(s: &[u8], entry: Entry) -> Outcome
 // Writes the text of a frame into `out` as far as `out` reaches, and answers how many bytes it wrote. A refused frame
 // prints its refusal alone, so the frame is sliced before any header is printed.
 pub fn print(s: &[u8], entry: Entry, out: &mut [u8]) -> usize
-    ensures text { λ r. ⌜ now (out .exit) ≡ put (textOf (entryKind entry) (now (s .entry))) (now (out .entry)) ⌝ }
-    ensures written { λ r. ⌜ r ≡ reach (textOf (entryKind entry) (now (s .entry))) (now (out .entry)) ⌝ }
+    ensures text { λ r. ⌜ now (out .exit) ≡ put (textOf entry (now (s .entry))) (now (out .entry)) ⌝ }
+    ensures written { λ r. ⌜ r ≡ reach (textOf entry (now (s .entry))) (now (out .entry)) ⌝ }
     ensures unwritten { λ r. ⌜ now (s .exit) ≡ now (s .entry) ⌝ }
 {
     let ended = outcome(s, entry);

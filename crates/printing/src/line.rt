@@ -5,8 +5,7 @@ ghost use Rattle.rules.specs.Place.{endingOnPaper};
 ghost use Rattle.printing.specs.Text.{
   space,
   newline,
-  kindName,
-  layerName,
+  nameOf,
   sourceName,
   decimal,
   line,
@@ -24,37 +23,28 @@ use crate::write::SPACE;
 use crate::write::number;
 use crate::write::word;
 use rules::Ending;
-use rules::Kind;
-use rules::Layer;
 use rules::Refusal;
 use rules::Row;
 
-fn kind_name(out: &mut [u8], at: usize, kind: Kind) -> usize
-    ensures { λ r. ⌜ Word (kindName kind) space (now (out .entry)) at (now (out .exit)) r ⌝ }
+// By the number of a kind of header or of a layer.
+fn name(out: &mut [u8], at: usize, number: usize) -> usize
+    ensures { λ r. ⌜ Word (nameOf number) space (now (out .entry)) at (now (out .exit)) r ⌝ }
 {
-    match kind {
-        Kind::Ethernet2 => word(out, at, b"ethernet2", SPACE),
-        Kind::Vlan => word(out, at, b"vlan", SPACE),
-        Kind::Ipv4 => word(out, at, b"ipv4", SPACE),
-        Kind::Ipv6 => word(out, at, b"ipv6", SPACE),
-        Kind::HopByHop => word(out, at, b"hop-by-hop", SPACE),
-        Kind::Routing => word(out, at, b"routing", SPACE),
-        Kind::Destination => word(out, at, b"destination", SPACE),
-        Kind::Fragment => word(out, at, b"fragment", SPACE),
-        Kind::Auth => word(out, at, b"auth", SPACE),
-        Kind::Udp => word(out, at, b"udp", SPACE),
-        Kind::Tcp => word(out, at, b"tcp", SPACE),
-    }
-}
-
-fn layer_name(out: &mut [u8], at: usize, layer: Layer) -> usize
-    ensures { λ r. ⌜ Word (layerName layer) space (now (out .entry)) at (now (out .exit)) r ⌝ }
-{
-    match layer {
-        Layer::Of(kind) => kind_name(out, at, kind),
-        Layer::Ipv4Packet => word(out, at, b"ipv4-packet", SPACE),
-        Layer::Ipv6Packet => word(out, at, b"ipv6-packet", SPACE),
-        Layer::UdpPayload => word(out, at, b"udp-payload", SPACE),
+    match number {
+        1 => word(out, at, b"ethernet2", SPACE),
+        2 => word(out, at, b"vlan", SPACE),
+        3 => word(out, at, b"ipv4", SPACE),
+        4 => word(out, at, b"ipv6", SPACE),
+        5 => word(out, at, b"hop-by-hop", SPACE),
+        6 => word(out, at, b"routing", SPACE),
+        7 => word(out, at, b"destination", SPACE),
+        8 => word(out, at, b"fragment", SPACE),
+        9 => word(out, at, b"auth", SPACE),
+        10 => word(out, at, b"udp", SPACE),
+        11 => word(out, at, b"tcp", SPACE),
+        13 => word(out, at, b"ipv4-packet", SPACE),
+        14 => word(out, at, b"ipv6-packet", SPACE),
+        _ => word(out, at, b"udp-payload", SPACE),
     }
 }
 
@@ -74,10 +64,10 @@ fn source_name(out: &mut [u8], at: usize, source: usize) -> usize
     word(out, at, b"udp", NEWLINE)
 }
 
-pub fn header_line(out: &mut [u8], at: usize, kind: Kind, offset: usize, len: usize) -> usize
+pub fn header_line(out: &mut [u8], at: usize, kind: usize, offset: usize, len: usize) -> usize
     ensures { λ r. ⌜ Wrote (headerLine kind offset len) (now (out .entry)) at (now (out .exit)) r ⌝ }
 {
-    let named = kind_name(out, at, kind);
+    let named = name(out, at, kind);
     let placed = number(out, named, offset, SPACE);
     number(out, placed, len, NEWLINE)
 }
@@ -141,9 +131,8 @@ pub fn refused_line(out: &mut [u8], at: usize, refusal: Refusal) -> usize
     ensures { λ r. ⌜ Wrote (refusedLine (refusalOnPaper refusal)) (now (out .entry)) at (now (out .exit)) r ⌝ }
 {
     let row = refusal.row();
-    let layer = row.layer;
     let told = word(out, at, b"refused", SPACE);
     let numbered = number(out, told, row.number, SPACE);
-    let named = layer_name(out, numbered, layer);
+    let named = name(out, numbered, row.layer);
     placed(out, named, row)
 }

@@ -121,3 +121,7 @@ transportRead = 5
 -- how many IP headers a frame holds; request No. 12 raises it
 abbrev pub ipLimit : ℕ
 ipLimit = 1
+
+-- how many numbers a header is where headers are written as numbers
+abbrev pub headerWords : ℕ
+headerWords = 3

@@ -15,6 +15,7 @@ use Rattle.rules.specs.declared.refusal.Bound.{Bound}
 use Rattle.rules.specs.declared.refusal.Bound.the-variants as B
 use Rattle.rules.specs.declared.refusal.Row.{Row}
 use Rattle.rules.specs.Numbers.{tooShort}
+use Rattle.rules.specs.Named.{layerNumber, sourceNumber}
 
 abbrev pub pick {ℓ} : {A : Type ℓ} → Bool → A → A → A
 pick true a b = a
@@ -29,13 +30,6 @@ pub data Failure : Type 0 where
   -- another number: the layer, and the value carried (0 where the row carries none)
   other : ℕ → Layer → ℕ → Failure
 
--- "Source is slice, IPv4 total length, IPv6 payload length or UDP length"; the numbers are ours, in that order
-abbrev pub sourceNumber : Source → ℕ
-sourceNumber S.Slice = 1
-sourceNumber S.Ipv4 = 2
-sourceNumber S.Ipv6 = 3
-sourceNumber S.Udp = 4
-
 abbrev pub sourceOf : RoomSource → Source
 sourceOf R.Slice = S.Slice
 sourceOf R.Ipv4 = S.Ipv4
@@ -48,7 +42,7 @@ boundBy B.Ipv4TotalLength room = S.Ipv4
 boundBy B.UdpLength room = S.Udp
 
 abbrev pub row : ℕ → Layer → ℕ → List ℕ → Row
-row n layer offset values = record { values = values; number = n; offset = offset; layer = layer }
+row n layer offset values = record { number = n; layer = layerNumber layer; offset = offset; values = values }
 
 -- a failure of the header at an offset, in a room that `room` set
 abbrev pub placed : Failure → ℕ → RoomSource → Row
@@ -85,12 +79,12 @@ All [] = Unit
 All (t ∷ ts) = Holds t × All ts
 
 -- what a header's tests come to: it is whole, with what it says; or a test failed
-pub data Outcome (A : Type 0) : Type 0 where
-  whole : A → Outcome A
-  failed : Failure → Outcome A
+pub data Verdict (A : Type 0) : Type 0 where
+  whole : A → Verdict A
+  failed : Failure → Verdict A
 
 -- "the refusal is that of the first test failed in walk order, and no refusal is given otherwise"
-unfoldable pub judge : {A : Type 0} → List Test → A → Outcome A
+unfoldable pub judge : {A : Type 0} → List Test → A → Verdict A
 judge [] x = whole x
 judge (t ∷ ts) x = pick (passes t) (judge ts x) (failed (failure t))
 
@@ -107,12 +101,12 @@ fail (least a b f) h = lt-leb a b (omega arith)
 fail (same a b f) h = ne-eqb a b h
 
 -- the outcome of a list of tests as a relation, for an answer x and a failure f
-pub data Judged {A : Type 0} (x : A) : List Test → Outcome A → Type 0 where
+pub data Judged {A : Type 0} (x : A) : List Test → Verdict A → Type 0 where
   done : {y : A} → y ≡ x → Judged x [] (whole y)
-  on : {t : Test} {ts : List Test} {v : Outcome A} → Holds t → Judged x ts v → Judged x (t ∷ ts) v
+  on : {t : Test} {ts : List Test} {v : Verdict A} → Holds t → Judged x ts v → Judged x (t ∷ ts) v
   off : {t : Test} {ts : List Test} {f : Failure} → (Holds t → ⊥) → f ≡ failure t → Judged x (t ∷ ts) (failed f)
 
-pub judged : {A : Type 0} {x : A} {ts : List Test} {v : Outcome A} → Judged x ts v → v ≡ judge ts x
+pub judged : {A : Type 0} {x : A} {ts : List Test} {v : Verdict A} → Judged x ts v → v ≡ judge ts x
 unfolding judge
 judged (done e) = ap whole e
 judged (on {t} h j) = rw (pass t h) (judged j)

@@ -1,7 +1,7 @@
 // Kinds of header, the layers that a refusal names, and what set a length; each with its number on paper.
 ghost use mathlib.Core.Path.{_≡_};
-ghost use Rattle.rules.specs.Paper.{kindNumber, layerNumber};
-ghost use Rattle.rules.specs.Test.{sourceNumber, sourceOf};
+ghost use Rattle.rules.specs.Named.{kindNumber, layerNumber, sourceNumber};
+ghost use Rattle.rules.specs.Test.{sourceOf};
 
 pub enum Kind {
     Ethernet2,

@@ -31,13 +31,19 @@ pub struct Place {
     pub kind: Kind,
 }
 
+// A header's answer: the number of its kind, its offset and its length. No kind has the number 0: a slot of zeros is no header.
+#[repr(C)]
 pub struct Header {
+    pub kind: usize,
     pub at: usize,
     pub len: usize,
-    pub kind: Kind,
 }
 
+// How many numbers a header is where headers are written as numbers: its fields, in this order.
+pub const HEADER_WORDS: usize = 3;
+
 // Some bytes of the frame: their offset from its start, and how many.
+#[repr(C)]
 pub struct Range {
     pub at: usize,
     pub len: usize,

@@ -112,13 +112,14 @@ pub enum Refusal {
     },
 }
 
-// A refusal as document 01's table has it: its number, its layer and offset, and what else its row carries, in
-// the table's order (required, have, the source's number; or the one value), zeros after that.
+// A refusal as document 01's table has it: its number, its layer's number and its offset, and what else its row
+// carries, in the table's order (required, have, the source's number; or the one value), zeros after that.
+#[repr(C)]
 pub struct Row {
-    pub values: [usize; 3],
     pub number: usize,
+    pub layer: usize,
     pub offset: usize,
-    pub layer: Layer,
+    pub values: [usize; 3],
 }
 
 impl Refusal {
@@ -134,43 +135,43 @@ impl Refusal {
                 source,
             } => Row {
                 number: 1,
-                layer,
+                layer: layer.number(),
                 offset,
                 values: [required, have, source.number()],
             },
             Refusal::Ipv4Version { offset, version } => Row {
                 number: 2,
-                layer: Layer::Of(Kind::Ipv4),
+                layer: Kind::Ipv4.number(),
                 offset,
                 values: [version, 0, 0],
             },
             Refusal::SmallIhl { offset, ihl } => Row {
                 number: 3,
-                layer: Layer::Of(Kind::Ipv4),
+                layer: Kind::Ipv4.number(),
                 offset,
                 values: [ihl, 0, 0],
             },
             Refusal::Ipv6Version { offset, version } => Row {
                 number: 4,
-                layer: Layer::Of(Kind::Ipv6),
+                layer: Kind::Ipv6.number(),
                 offset,
                 values: [version, 0, 0],
             },
             Refusal::HopByHopNotAtStart { offset } => Row {
                 number: 5,
-                layer: Layer::Of(Kind::HopByHop),
+                layer: Kind::HopByHop.number(),
                 offset,
                 values: [0, 0, 0],
             },
             Refusal::ZeroAuthLength { offset } => Row {
                 number: 6,
-                layer: Layer::Of(Kind::Auth),
+                layer: Kind::Auth.number(),
                 offset,
                 values: [0, 0, 0],
             },
             Refusal::SmallDataOffset { offset, value } => Row {
                 number: 7,
-                layer: Layer::Of(Kind::Tcp),
+                layer: Kind::Tcp.number(),
                 offset,
                 values: [value, 0, 0],
             },

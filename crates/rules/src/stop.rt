@@ -1,6 +1,6 @@
 // Why the walk of an accepted frame stopped, with its number on paper; and the payload where it stopped.
 ghost use mathlib.Core.Path.{_≡_};
-ghost use Rattle.rules.specs.Paper.{stopNumber};
+ghost use Rattle.rules.specs.Named.{stopNumber};
 use crate::Number;
 use crate::Range;
 

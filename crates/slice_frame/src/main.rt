@@ -1,17 +1,20 @@
 // Reads one Ethernet frame from standard input, to the input's end, and prints its headers, its payload and why the walk
 // stopped, or its refusal (document 01, F12). An input of more than 65,536 bytes prints `too long`. Where a read fails,
 // what arrived until then is the frame.
+ghost use Prim.Native.Nat.{_≤_};
 ghost use mathlib.Core.Path.{_≡_};
-ghost use lib.ListN.{length};
+ghost use lib.ListN.{length, take};
+ghost use Rattle.rules.specs.declared.entry.Entry.the-variants.{Ethernet};
+ghost use Rattle.printing.specs.Text.{textOf};
+ghost use Rattle.printing.specs.Values.{frameLimit};
+ghost use Rattle.printing.specs.Fits.{textLimit};
 use rules::Entry;
 
 // One byte more than a frame may have, so that a longer input shows.
 const ROOM: usize = 65537;
 
-// Enough for every frame that fits. A line has at most 24 bytes: the longest name has 11, and no number of an accepted
-// frame has more than 5 digits. Three tags apart, a header has at least 8 bytes, so there are at most 3 + 65,536 / 8
-// header lines; with the payload's and the stop's that makes 8,197 lines, or 196,728 bytes. A refusal is one short line.
-const TEXT: usize = 262144;
+// `textLimit`: the text of no frame has more bytes, by `text-fits` in printing's specs/Fits.antt.
+const TEXT: usize = 262211;
 
 fn room() -> [u8; ROOM]
     ensures { λ r. ⌜ 65537 ≡ length r ⌝ }
@@ -20,9 +23,18 @@ fn room() -> [u8; ROOM]
 }
 
 fn text() -> [u8; TEXT]
-    ensures { λ r. ⌜ 262144 ≡ length r ⌝ }
+    ensures { λ r. ⌜ textLimit ≡ length r ⌝ }
 {
     [0; TEXT]
+}
+
+// Writes the whole text of a frame into `out`, and answers its length. Nothing is cut off.
+fn printed(frame: &[u8], out: &mut [u8; TEXT]) -> usize
+    requires { ⌜ length (now frame) ≤ frameLimit ⌝ }
+    ensures counted { λ r. ⌜ r ≡ length (textOf Ethernet (now (frame .entry))) ⌝ }
+    ensures whole { λ r. ⌜ take r (now (out .exit)) ≡ textOf Ethernet (now (frame .entry)) ⌝ }
+{
+    printing::print(frame, Entry::Ethernet, out)
 }
 
 fn main() {
@@ -33,6 +45,6 @@ fn main() {
         return;
     }
     let mut out = text();
-    let written = printing::print(&frame[..have], Entry::Ethernet, &mut out);
+    let written = printed(&frame[..have], &mut out);
     io::write_all(1, &out[..written]);
 }

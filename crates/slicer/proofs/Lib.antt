@@ -1,6 +1,6 @@
 -- Laws that several proofs of this crate cite.
 pub mod Answers
-pub mod Reading
+pub mod ReadersAt
 pub mod Links
 pub mod Nets
 pub mod Exts

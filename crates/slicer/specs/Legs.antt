@@ -3,13 +3,13 @@
 use Prim.Native.Nat.{ℕ, zero, suc, _+_, _-_, _≤_}
 use mathlib.Core.Path.{_≡_}
 use mathlib.Core.List.{List, [], _∷_}
-use mathlib.Core.Bool.{Bool, true, false, _||_}
+use mathlib.Core.Bool.{Bool, true, false}
 use lib.ListN.{length}
-use lib.Dec.{eqb}
+use Rattle.rules.specs.declared.entry.Entry.{Entry}
 use Rattle.rules.specs.declared.ether_type.EtherType.{EtherType}
 use Rattle.rules.specs.declared.ip_number.IpNumber.{IpNumber}
 use Rattle.rules.specs.declared.kind.Kind.{Kind}
-use Rattle.rules.specs.declared.kind.Kind.the-variants.{Ethernet2, Ipv4, Ipv6}
+use Rattle.rules.specs.declared.kind.Kind.the-variants.{Ethernet2, Vlan}
 use Rattle.rules.specs.declared.kind.RoomSource.{RoomSource}
 use Rattle.rules.specs.declared.kind.RoomSource.the-variants as S
 use Rattle.rules.specs.declared.place.Header.{Header}
@@ -18,18 +18,26 @@ use Rattle.rules.specs.declared.place.Number.the-variants.{Link, Ip}
 use Rattle.rules.specs.declared.place.Place.{Place}
 use Rattle.rules.specs.declared.place.Range.{Range}
 use Rattle.rules.specs.declared.place.Room.{Room}
-use Rattle.rules.specs.declared.refusal.Refusal.{Refusal}
 use Rattle.rules.specs.declared.refusal.Row.{Row}
-use Rattle.rules.specs.Numbers.{ethernetLength, tagLength, tagLimit, ipv4Type, ipv6Type}
-use Rattle.rules.specs.Test.{pick}
-use Rattle.rules.specs.Paper.{refusalOnPaper}
-use Rattle.rules.specs.Rules.{rule, isTag, link, transport, chain6}
-use Rattle.rules.specs.Place.{room, place, start, follow, endingOnPaper}
-use Rattle.laws.specs.Gather.{gather, rest}
 use Rattle.rules.specs.declared.stop.Ending.{Ending}
 use Rattle.rules.specs.declared.stop.Stop.{Stop}
 use Rattle.rules.specs.declared.stop.Stop.the-variants as Z
+use Rattle.rules.specs.declared.turn.ChainPlace.{ChainPlace}
+use Rattle.rules.specs.declared.turn.Turn.{Turn}
+use Rattle.rules.specs.Numbers.{ethernetLength, tagLength, tagLimit}
+use Rattle.rules.specs.Named.{kindNumber}
+use Rattle.rules.specs.Test.{pick}
+use Rattle.rules.specs.Paper.{refusalOnPaper}
+use Rattle.rules.specs.Rules.{rule, link, transport, chain6}
+use Rattle.rules.specs.Place.{room, place, opening, follow, endingOnPaper}
+use Rattle.laws.specs.Gather.{gather, rest}
 use Rattle.headers.specs.declared.transport.TransportHeader.{TransportHeader}
+use Rattle.headers.specs.Says.{ipSays}
+use Rattle.one_header.specs.declared.ip.IpFound.{IpFound}
+use Rattle.one_header.specs.declared.ip.IpKind.{IpKind}
+use Rattle.one_header.specs.declared.ip.IpKind.the-variants as I
+use Rattle.one_header.specs.At.{Placed, placing, over, setting}
+use Rattle.one_header.specs.Turns.{ipKindOf, firstTurn, linkEndOnPaper}
 use Rattle.slicer.specs.declared.packet.NetPart.{NetPart}
 use Rattle.slicer.specs.declared.packet.TransportPart.{TransportPart}
 use Rattle.slicer.specs.declared.packet.TransportPart.the-variants as P
@@ -74,26 +82,35 @@ abbrev pub transportLegOnPaper : TransportLeg → Ends TransportFound
 transportLegOnPaper (T.Open x) = reached x
 transportLegOnPaper (T.Refused r) = shut (refusalOnPaper r)
 
--- the refusal r is that of a leg which ended in one
-abbrev pub Shut : {A : Type 0} → Refusal → Ends A → Type 0
-Shut r e = (row : Row) → e ≡ shut row → refusalOnPaper r ≡ row
+-- where every leg hands over: the reply from a turn on, at an offset in the room p, with the parts f found before
+unfoldable pub onTurn : List ℕ → Parts → Turn → Room → ℕ → Number → Reply
+onTurn s f turn p at number = rest sliceWay f s (follow turn p at number (p .end))
 
 -- ---- the link leg
 
 -- n tags from an offset on
-unfoldable pub tagsFrom : ℕ → ℕ → List Range
+unfoldable pub tagsFrom : ℕ → ℕ → List Header
 tagsFrom at zero = []
-tagsFrom at (suc n) = range at tagLength ∷ tagsFrom (at + tagLength) n
+tagsFrom at (suc n) = record { kind = kindNumber Vlan; at = at; len = tagLength } ∷ tagsFrom (at + tagLength) n
 
 abbrev pub ethernetHeader : Header
-ethernetHeader = record { at = 0; len = ethernetLength; kind = Ethernet2 }
-
-abbrev pub linkParts : Bool → ℕ → Parts
-linkParts linked tags = record { link = pick linked (withLink nothing ethernetHeader .link) (nothing .link); tags = tagsFrom ethernetLength tags; net = nothing .net; transport = nothing .transport }
+ethernetHeader = record { kind = kindNumber Ethernet2; at = 0; len = ethernetLength }
 
 -- the same with what was found behind the link
+abbrev pub partsOf : (linked : Bool) (tags : ℕ) → NetPart → TransportPart → Parts
+partsOf linked tags net transport =
+    record {
+      link = pick linked (withLink nothing ethernetHeader .link) (nothing .link);
+      tags = tagsFrom ethernetLength tags;
+      net = net;
+      transport = transport;
+    }
+
+abbrev pub linkParts : Bool → ℕ → Parts
+linkParts linked tags = partsOf linked tags (nothing .net) (nothing .transport)
+
 abbrev pub foundBy : LinkFound → NetPart → TransportPart → Parts
-foundBy x net transport = record { link = linkParts (x .linked) 0 .link; tags = tagsFrom ethernetLength (x .tags); net = net; transport = transport }
+foundBy x net transport = partsOf (x .linked) (x .tags) net transport
 
 abbrev pub endingBy : Range → Number → Stop → Ending
 endingBy payload number stop = record { payload = payload; number = number; stop = stop }
@@ -102,87 +119,100 @@ abbrev pub linkRoom : List ℕ → ℕ → Room
 linkRoom s tags = room (length s) tags 0 0 S.Slice false
 
 -- the reply from a link number on, with `tags` held
-unfoldable pub onLink : List ℕ → ℕ → Parts → EtherType → ℕ → Reply
-onLink s tags f number at = rest sliceWay f s (follow (link (linkRoom s tags) (number .0)) (linkRoom s tags) at (Link number) (length s))
+abbrev pub onLink : List ℕ → ℕ → EtherType → ℕ → Reply
+onLink s tags number at = onTurn s (linkParts true tags) (link (linkRoom s tags) (number .0)) (linkRoom s tags) at (Link number)
 
-pub record LinkEnd (s : List ℕ) (before : Reply) (x : LinkFound) : Type 0 where
-  pub left : before ≡ onLink s (x .tags) (linkParts (x .linked) (x .tags)) (x .number) (x .at)
+pub record LinkDone (s : List ℕ) (before : Reply) (x : LinkFound) : Type 0 where
+  pub left : before ≡ onTurn s (linkParts (x .linked) (x .tags)) (linkEndOnPaper (x .turn)) (linkRoom s (x .tags)) (x .at) (Link (x .number))
   pub inside : x .at ≤ length s
   pub few : x .tags ≤ tagLimit
-  pub ended : isTag (x .number .0) ≡ true → tagLimit ≤ x .tags
 
 abbrev pub Linking : List ℕ → Reply → Ends LinkFound → Type 0
-Linking s before = Went (LinkEnd s before) (λ r. before ≡ refusedBy r)
+Linking s before = Went (LinkDone s before) (λ r. before ≡ refusedBy r)
 
-abbrev pub Linked : List ℕ → Kind → Ends LinkFound → Type 0
-Linked s k = Linking s (gather sliceWay nothing s (start k s))
+abbrev pub Linked : List ℕ → Entry → Ends LinkFound → Type 0
+Linked s e = Linking s (rest sliceWay nothing s (opening e s))
 
 abbrev pub Tagged : List ℕ → EtherType → Ends LinkFound → Type 0
-Tagged s first = Linking s (onLink s 0 (linkParts true 0) first ethernetLength)
+Tagged s first = Linking s (onLink s 0 first ethernetLength)
 
--- ---- the net leg: whatever was found before (f), and however many tags are held (t)
+-- ---- the net leg: whatever was found before (f), however many tags and IP headers are held (t, i), and whatever packet the header
+-- stands in (its version v and mark m)
 
--- a link number that names an IP header, and that header's kind
-unfoldable pub isIp : ℕ → Bool
-isIp n = eqb n ipv4Type || eqb n ipv6Type
-
-unfoldable pub ipKind : ℕ → Kind
-ipKind n = pick (eqb n ipv4Type) Ipv4 Ipv6
-
-abbrev pub netPlace : List ℕ → Kind → ℕ → ℕ → Place
-netPlace s k at t = place k at (room (length s) t 0 1 S.Slice false)
+abbrev pub netPlace : Kind → (at end t v i : ℕ) → RoomSource → Bool → Place
+netPlace k at end t v i source m = place k at (room end t v i source m)
 
 -- the room behind the extensions of an IP header of kind k
-abbrev pub netRoom : Kind → ℕ → ℕ → RoomSource → Bool → Room
-netRoom k end t source mark = room end t (rule k .version) 1 source mark
+abbrev pub netRoom : Kind → (end t i : ℕ) → RoomSource → Bool → Room
+netRoom k end t i source mark = room end t (rule k .version) i source mark
 
 -- the reply from an IP number on that is no extension to open
-unfoldable pub onTransport : List ℕ → Parts → Room → IpNumber → ℕ → Reply
-onTransport s f p number at = rest sliceWay f s (follow (transport p (number .0)) p at (Ip number) (p .end))
+abbrev pub onTransport : List ℕ → Parts → Room → IpNumber → ℕ → Reply
+onTransport s f p number at = onTurn s f (transport p (number .0)) p at (Ip number)
+
+abbrev pub headOf : Kind → (at len : ℕ) → Header
+headOf k at len = record { kind = kindNumber k; at = at; len = len }
 
 abbrev pub foundIp : NetFound → Parts → Parts
-foundIp x f = withNet f (ipPart (record { at = x .begin; len = x .len; kind = x .kind }) (x .begin + x .len) (x .at) (x .mark))
+foundIp x f = withNet f (ipPart (headOf (x .kind) (x .begin) (x .len)) (x .begin + x .len) (x .at) (x .mark))
 
-pub record NetEnd (s : List ℕ) (k : Kind) (at : ℕ) (x : NetFound) : Type 0 where
-  pub left : (f : Parts) (t : ℕ) → gather sliceWay f s (netPlace s k at t) ≡ onTransport s (foundIp x f) (netRoom k (x .end) t (x .source) (x .mark)) (x .number) (x .at)
+pub record NetDone (s : List ℕ) (k : Kind) (at end : ℕ) (source : RoomSource) (x : NetFound) : Type 0 where
+  pub left : (f : Parts) (t v i : ℕ) (m : Bool) → gather sliceWay f s (netPlace k at end t v i source m)
+      ≡ onTransport s (foundIp x f) (netRoom k (x .end) t i (x .source) (x .mark)) (x .number) (x .at)
   pub headed : x .begin + x .len ≤ x .at
   pub inside : x .at ≤ x .end
   pub room : x .end ≤ length s
 
-abbrev pub Netted : List ℕ → Kind → ℕ → Ends NetFound → Type 0
-Netted s k at = Went (NetEnd s k at) (λ r. (f : Parts) (t : ℕ) → gather sliceWay f s (netPlace s k at t) ≡ refusedBy r)
+abbrev pub Netted : List ℕ → Kind → (at end : ℕ) → RoomSource → Ends NetFound → Type 0
+Netted s k at end source =
+    Went (NetDone s k at end source) (λ r. (f : Parts) (t v i : ℕ) (m : Bool) → gather sliceWay f s (netPlace k at end t v i source m) ≡ refusedBy r)
 
--- ---- the extensions of an IPv6 header h, from the offset `from` on
+-- an IP header at a place, as `one_header` answers it; its room, where it declares one, is the header's own
+abbrev pub setsOf : IpKind → RoomSource
+setsOf I.Ipv4 = S.Ipv4
+setsOf I.Ipv6 = S.Ipv6
 
--- the reply from a number of the chain on, with the extensions up to `at` found
-unfoldable pub onChain : List ℕ → Bool → Parts → Header → ℕ → Room → IpNumber → ℕ → Reply
-onChain s first f h from p number at =
-    rest sliceWay (withNet f (ipPart h from at (p .mark))) s (follow (chain6 first p (number .0)) p at (Ip number) (p .end))
+pub record IpAnswer (w : List ℕ) (k : IpKind) (at : ℕ) (source : RoomSource) (o : Placed IpFound) : Type 0 where
+  pub is : (v : ℕ) → o ≡ placing (over (λ x. setting x (length w) (setsOf k) source) (ipSays (ipKindOf k) v w)) at source
 
-pub record ExtsEnd (s : List ℕ) (begin : IpNumber) (from end : ℕ) (source : RoomSource) (x : ExtsFound) : Type 0 where
-  pub left : (f : Parts) (h : Header) (t : ℕ) → onChain s true f h from (netRoom Ipv6 end t source false) begin from
-      ≡ onTransport s (withNet f (ipPart h from (x .at) (x .mark))) (netRoom Ipv6 end t source (x .mark)) (x .number) (x .at)
+-- ---- the extensions of an IP header h of kind k, from the offset `from` on
+
+-- the reply from the header's number on
+abbrev pub onFirst : List ℕ → Kind → Parts → Header → ℕ → Room → IpNumber → Reply
+onFirst s k f h from p number =
+    onTurn s (withNet f (ipPart h from from (p .mark))) (firstTurn (rule k .version) p (number .0)) p from (Ip number)
+
+-- the reply from a number of an IPv6 chain on, with the extensions up to `at` found
+abbrev pub onChain : List ℕ → ChainPlace → Parts → Header → ℕ → Room → IpNumber → ℕ → Reply
+onChain s place f h from p number at = onTurn s (withNet f (ipPart h from at (p .mark))) (chain6 place p (number .0)) p at (Ip number)
+
+pub record ExtsDone (s : List ℕ) (k : Kind) (begin : IpNumber) (from end : ℕ) (source : RoomSource) (marked : Bool) (x : ExtsFound) : Type 0 where
+  pub left : (f : Parts) (h : Header) (t i : ℕ) → onFirst s k f h from (netRoom k end t i source marked) begin
+      ≡ onTransport s (withNet f (ipPart h from (x .at) (x .mark))) (netRoom k end t i source (x .mark)) (x .number) (x .at)
   pub headed : from ≤ x .at
   pub inside : x .at ≤ end
 
-abbrev pub Extended : List ℕ → IpNumber → ℕ → ℕ → RoomSource → Ends ExtsFound → Type 0
-Extended s begin from end source =
-    Went (ExtsEnd s begin from end source)
-    (λ r. (f : Parts) (h : Header) (t : ℕ) → onChain s true f h from (netRoom Ipv6 end t source false) begin from ≡ refusedBy r)
+abbrev pub Extended : List ℕ → Kind → IpNumber → (from end : ℕ) → RoomSource → Bool → Ends ExtsFound → Type 0
+Extended s k begin from end source marked =
+    Went (ExtsDone s k begin from end source marked)
+    (λ r. (f : Parts) (h : Header) (t i : ℕ) → onFirst s k f h from (netRoom k end t i source marked) begin ≡ refusedBy r)
 
 -- ---- the transport leg: whatever IP header it stands behind (k), whatever was found before (f)
 
 abbrev pub stoppedAt : IpNumber → ℕ → ℕ → Stop → TransportFound
-stoppedAt number at end stop = record { ending = record { payload = range at (end - at); number = Ip number; stop = stop }; transport = P.Nothing }
+stoppedAt number at end stop =
+    record { ending = endingBy (range at (end - at)) (Ip number) stop; transport = P.Nothing }
 
 abbrev pub openedAt : IpNumber → Kind → ℕ → TransportHeader → TransportFound
 openedAt number k at x =
     record {
-      ending = record { payload = range (at + x .len) (at + x .end - (at + x .len)); number = Ip number; stop = Z.TransportRead };
-      transport = P.Is (record { at = at; len = x .len; kind = k });
+      ending = endingBy (range (at + x .len) (x .end - x .len)) (Ip number) Z.TransportRead;
+      transport = P.Is (headOf k at (x .len));
     }
 
 abbrev pub Carried : List ℕ → ℕ → RoomSource → Bool → IpNumber → ℕ → Ends TransportFound → Type 0
 Carried s end source mark number at =
-    Went (λ x. (f : Parts) (k : Kind) (t : ℕ) → f .transport ≡ P.Nothing → onTransport s f (netRoom k end t source mark) number at ≡ acceptedBy (withTransport f (x .transport)) (endingOnPaper (x .ending)))
-    (λ r. (f : Parts) (k : Kind) (t : ℕ) → onTransport s f (netRoom k end t source mark) number at ≡ refusedBy r)
+    Went
+    (λ x. (f : Parts) (k : Kind) (t i : ℕ) → f .transport ≡ P.Nothing
+    → onTransport s f (netRoom k end t i source mark) number at ≡ acceptedBy (withTransport f (x .transport)) (endingOnPaper (x .ending)))
+    (λ r. (f : Parts) (k : Kind) (t i : ℕ) → onTransport s f (netRoom k end t i source mark) number at ≡ refusedBy r)

@@ -13,7 +13,8 @@ use Rattle.rules.specs.declared.kind.Layer.the-variants.{Of}
 use Rattle.rules.specs.Test.{row}
 use Rattle.rules.specs.Paper.{refusalOnPaper}
 use Rattle.rules.specs.Place.{Stopped, endingOnPaper}
-use Rattle.rules.specs.Walk.{Entry, header, slices}
+use Rattle.rules.specs.declared.entry.Entry.{Entry}
+use Rattle.rules.specs.Walk.{HeaderAt, header, slices}
 use Rattle.laws.specs.Gather.{Way, gathered}
 use Rattle.slicer.specs.declared.packet.LinkPart.{LinkPart}
 use Rattle.slicer.specs.declared.packet.LinkPart.the-variants as L
@@ -33,7 +34,7 @@ range at len = record { at = at; len = len }
 
 pub record Parts : Type 0 where
   pub link : LinkPart
-  pub tags : List Range
+  pub tags : List Header
   pub net : NetPart
   pub transport : TransportPart
 
@@ -43,8 +44,8 @@ nothing = record { link = L.Nothing; tags = []; net = N.Nothing; transport = T.N
 abbrev pub withLink : Parts → Header → Parts
 withLink f h = record { link = L.Ethernet2 h; tags = f .tags; net = f .net; transport = f .transport }
 
-abbrev pub withTag : Parts → Range → Parts
-withTag f r = record { link = f .link; tags = f .tags ++ (r ∷ []); net = f .net; transport = f .transport }
+abbrev pub withTag : Parts → Header → Parts
+withTag f h = record { link = f .link; tags = f .tags ++ (h ∷ []); net = f .net; transport = f .transport }
 
 abbrev pub withNet : Parts → IpPart → Parts
 withNet f i = record { link = f .link; tags = f .tags; net = N.Ip i; transport = f .transport }
@@ -61,15 +62,15 @@ abbrev pub extended : NetPart → Parts → ℕ → Bool → Parts
 extended N.Nothing f to mark = f
 extended (N.Ip i) f to mark = withNet f (ipPart (i .header) (i .exts .at) to mark)
 
-abbrev pub putIp : Parts → Entry → Parts
+abbrev pub putIp : Parts → HeaderAt → Parts
 putIp f e = withNet f (ipPart (header e) (e .at + e .len) (e .at + e .len) (e .room .mark))
 
-abbrev pub putExt : Parts → Entry → Parts
+abbrev pub putExt : Parts → HeaderAt → Parts
 putExt f e = extended (f .net) f (e .at + e .len) (e .room .mark)
 
-abbrev pub put : Kind → Parts → Entry → Parts
+abbrev pub put : Kind → Parts → HeaderAt → Parts
 put Ethernet2 f e = withLink f (header e)
-put Vlan f e = withTag f (range (e .at) (e .len))
+put Vlan f e = withTag f (header e)
 put Ipv4 f e = putIp f e
 put Ipv6 f e = putIp f e
 put HopByHop f e = putExt f e
@@ -88,16 +89,20 @@ pub data Ended : Type 0 where
 
 pub record Reply : Type 0 where
   pub link : LinkPart
-  pub tags : List Range
+  pub tags : List Header
   pub count : ℕ
   pub net : NetPart
   pub transport : TransportPart
   pub ended : Ended
 
+-- a slot with no header: no kind has the number 0
+abbrev pub noHeader : Header
+noHeader = record { kind = 0; at = 0; len = 0 }
+
 -- a fixed number of slots, zeros behind the list
-unfoldable pub slots : ℕ → List Range → List Range
+unfoldable pub slots : ℕ → List Header → List Header
 slots zero l = []
-slots (suc n) [] = range 0 0 ∷ slots n []
+slots (suc n) [] = noHeader ∷ slots n []
 slots (suc n) (r ∷ l) = r ∷ slots n l
 
 abbrev pub acceptedBy : Parts → Stopped → Reply
@@ -111,9 +116,9 @@ refusedBy r = record { link = L.Nothing; tags = slots tagLimit []; count = 0; ne
 abbrev pub sliceWay : Way Parts Reply
 sliceWay = record { put = λ f e. put (e .kind) f e; done = acceptedBy; bad = λ f r. refusedBy r; never = refusedBy (row 0 (Of Ethernet2) 0 []) }
 
--- what document 01 says of a frame whose first header is of kind k
-unfoldable pub replyOf : Kind → List ℕ → Reply
-replyOf k s = gathered sliceWay nothing (slices k s)
+-- what document 01 says of a frame, by its entry
+unfoldable pub replyOf : Entry → List ℕ → Reply
+replyOf e s = gathered sliceWay nothing (slices e s)
 
 -- ---- the code's reply on paper
 

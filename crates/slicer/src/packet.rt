@@ -35,10 +35,10 @@ pub enum Outcome {
 // The tags stand beside the enums, in an array and a count; slots past the count are zeros. Of a refused frame nothing but
 // the refusal is told.
 pub struct SlicedPacket {
-    pub tags: [Range; TAG_LIMIT],
+    pub link: LinkPart,
+    pub tags: [Header; TAG_LIMIT],
     pub count: usize,
     pub net: NetPart,
-    pub link: LinkPart,
     pub transport: TransportPart,
     pub outcome: Outcome,
 }

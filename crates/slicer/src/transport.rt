@@ -5,7 +5,12 @@ ghost use lib.ListN.{length};
 ghost use Rattle.slicer.specs.Legs.{Carried, transportLegOnPaper, stoppedAt, openedAt};
 use crate::packet::TransportPart;
 use headers::TransportHeader;
-use headers::TransportRead;
+use one_header::TransportAt;
+use one_header::TransportTurn;
+use one_header::stop_behind;
+use one_header::tcp_at;
+use one_header::transport_turn;
+use one_header::udp_at;
 use rules::Ending;
 use rules::Header;
 use rules::IpNumber;
@@ -15,8 +20,6 @@ use rules::Range;
 use rules::Refusal;
 use rules::RoomSource;
 use rules::Stop;
-use rules::ip_number;
-use turns::refuse_transport;
 
 pub struct TransportFound {
     pub ending: Ending,
@@ -48,22 +51,20 @@ fn opened(number: IpNumber, kind: Kind, at: usize, x: TransportHeader) -> Transp
     requires { ⌜ (x .len ≤ x .end) × (at + x .end < 2 ^ 64) ⌝ }
     ensures { λ r. ⌜ r ≡ openedAt number kind at x ⌝ }
 {
-    let from = at + x.len;
-    let to = at + x.end;
     let payload = Range {
-        at: from,
-        len: to - from,
+        at: at + x.len,
+        len: x.end - x.len,
     };
     let header = Header {
+        kind: kind.number(),
         at,
         len: x.len,
-        kind,
     };
     TransportFound {
         ending: Ending {
             payload,
             number: Number::Ip(number),
-            stop: Stop::TransportRead,
+            stop: stop_behind(),
         },
         transport: TransportPart::Is(header),
     }
@@ -80,22 +81,22 @@ pub fn walk_transport(
     requires { ⌜ (at ≤ end) × (end ≤ length (now s)) ⌝ }
     ensures { λ r. ⌜ Carried (now (s .entry)) end source mark number at (transportLegOnPaper r) ⌝ }
 {
-    if mark {
-        return TransportLeg::Open(unopened(number, at, end, Stop::Fragment));
+    let turn = transport_turn(number, mark);
+    match turn {
+        TransportTurn::Stops(stop) => TransportLeg::Open(unopened(number, at, end, stop)),
+        TransportTurn::Udp => {
+            let read = udp_at(&s[at..end], at, source);
+            match read {
+                TransportAt::Refused(refusal) => TransportLeg::Refused(refusal),
+                TransportAt::Whole(x) => TransportLeg::Open(opened(number, Kind::Udp, at, x)),
+            }
+        }
+        TransportTurn::Tcp => {
+            let read = tcp_at(&s[at..end], at, source);
+            match read {
+                TransportAt::Refused(refusal) => TransportLeg::Refused(refusal),
+                TransportAt::Whole(x) => TransportLeg::Open(opened(number, Kind::Tcp, at, x)),
+            }
+        }
     }
-    if number.0 == ip_number::UDP {
-        let answer = headers::read_udp(&s[at..end]);
-        let TransportRead::Whole(x) = answer else {
-            return TransportLeg::Refused(refuse_transport(answer, at, source));
-        };
-        return TransportLeg::Open(opened(number, Kind::Udp, at, x));
-    }
-    if number.0 == ip_number::TCP {
-        let answer = headers::read_tcp(&s[at..end]);
-        let TransportRead::Whole(x) = answer else {
-            return TransportLeg::Refused(refuse_transport(answer, at, source));
-        };
-        return TransportLeg::Open(opened(number, Kind::Tcp, at, x));
-    }
-    TransportLeg::Open(unopened(number, at, end, Stop::IpNumberNotOpened))
 }

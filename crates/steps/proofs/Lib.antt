@@ -1,4 +1,4 @@
 -- Laws that several proofs of this crate cite.
-pub mod Steps
-pub mod Laid
-pub mod Lists
+pub mod Step
+pub mod Written
+pub mod Loop

@@ -1,4 +1,3 @@
--- One header at a place (Steps), headers by number (Lists), and the step from a place (Places).
-pub mod Steps
+-- Headers by number and as numbers (Lists), and the step from a place (Places).
 pub mod Lists
 pub mod Places

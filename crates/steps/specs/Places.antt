@@ -8,7 +8,7 @@ use Rattle.rules.specs.declared.refusal.Row.{Row}
 use Rattle.rules.specs.Numbers.{tagLimit, ipLimit}
 use Rattle.rules.specs.Test.{pick}
 use Rattle.rules.specs.Paper.{refusalOnPaper}
-use Rattle.rules.specs.Place.{Stopped, endingOnPaper, Follow, next, halt, wrong, Reading, reads, refuses, read}
+use Rattle.rules.specs.Place.{Stopped, endingOnPaper, Follow, next, halt, wrong, PlaceRead, reads, refuses, read}
 use Rattle.steps.specs.declared.place.Step.{Step}
 use Rattle.steps.specs.declared.place.Step.the-variants as S
 
@@ -30,7 +30,7 @@ leads len (next q) = on len q
 leads len (halt x) = last len x
 leads len (wrong r) = refused r
 
-abbrev pub steps : Reading → Stepped
+abbrev pub steps : PlaceRead → Stepped
 steps (reads x) = leads (x .len) (x .follow)
 steps (refuses r) = refused r
 

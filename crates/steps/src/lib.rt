@@ -1,8 +1,7 @@
 // The walk header by header: the headers as numbers, header number k, the count of headers, and the step from a place to the
-// next. It knows the header readers and the turns only by what they promise. The frame is read and never written.
+// next. It knows one header at a place only by what crate one_header promises. The frame is read and never written.
 mod list;
 mod place;
-mod step;
 
 pub use list::CountAnswer;
 pub use list::HeaderAnswer;

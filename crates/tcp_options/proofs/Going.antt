@@ -11,9 +11,9 @@ use Rattle.tcp_options.specs.declared.answer.TcpOption.{TcpOption}
 use Rattle.tcp_options.specs.declared.answer.OptionAnswer.{OptionAnswer}
 use Rattle.tcp_options.specs.declared.answer.OptionAnswer.the-variants as A
 use Rattle.tcp_options.proofs.answer.OptionAnswer.{the-type}
-use Rattle.tcp_options.specs.Options.{Reading, lists, ends, refuses, read, Listed, listed, options, no-more, optionOf, answerBy}
+use Rattle.tcp_options.specs.Options.{OptionRead, lists, ends, refuses, read, Listed, listed, options, no-more, optionOf, answerBy}
 use Rattle.tcp_options.specs.Paper.{kindOnPaper, optionOnPaper}
-use Rattle.tcp_options.specs.Steps.{lists-fits, from, behind, from-lists, from-ends, from-refuses}
+use Rattle.tcp_options.specs.OneOption.{lists-fits, from, behind, from-lists, from-ends, from-refuses}
 
 -- `place` options were passed, and the next begins at `at`
 pub record Going (s : List ℕ) (k at place : ℕ) : Type 0 where
@@ -39,7 +39,7 @@ module _ {s : List ℕ} {k at place : ℕ} (g : Going s k at place) where
   pub going-last : (a : OptionAnswer) → optionOnPaper a ≡ answerBy at (read (drop at s)) → OneOf (1 ∷ 2 ∷ []) (tagOf the-type a) → optionOnPaper a ≡ optionOf (options s) k
   going-last a e t = go a t (read (drop at s)) refl e
     where
-      go : (a : OptionAnswer) → OneOf (1 ∷ 2 ∷ []) (tagOf the-type a) → (r : Reading) → read (drop at s) ≡ r → optionOnPaper a ≡ answerBy at r → optionOnPaper a ≡ optionOf (options s) k
+      go : (a : OptionAnswer) → OneOf (1 ∷ 2 ∷ []) (tagOf the-type a) → (r : OptionRead) → read (drop at s) ≡ r → optionOnPaper a ≡ answerBy at r → optionOnPaper a ≡ optionOf (options s) k
       go (A.Is o) t r p e = absurd (⊎-elim (λ z. omega arith) (λ z. omega arith) t)
       go A.NoMore t (lists kind size) p e = absurd (let z : _≡_ {A = ℕ} 0 1 = cc in omega arith)
       go A.NoMore t ends p e = ended-is p
@@ -53,7 +53,7 @@ module _ {s : List ℕ} {k at place : ℕ} (g : Going s k at place) where
     it-lists : read (drop at s) ≡ lists (kindOnPaper (o .kind)) (o .len)
     it-lists = go (read (drop at s)) (sym (ap optionOnPaper i) ∙ e)
       where
-        go : (r : Reading) → optionOnPaper (A.Is o) ≡ answerBy at r → r ≡ lists (kindOnPaper (o .kind)) (o .len)
+        go : (r : OptionRead) → optionOnPaper (A.Is o) ≡ answerBy at r → r ≡ lists (kindOnPaper (o .kind)) (o .len)
         go (lists kind size) e =
             let z : listed (kindOnPaper (o .kind)) (o .at) (o .len) ≡ listed kind at size = cc in
             ap (λ (x : Listed). lists (x .kind) (x .size)) (sym z)

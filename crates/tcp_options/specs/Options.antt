@@ -39,16 +39,16 @@ abbrev pub timestamp : ℕ
 timestamp = 8
 
 -- a known kind and its sizes
-pub record Entry : Type 0 where
+pub record KnownOption : Type 0 where
   pub kind : ℕ
   pub sizes : List ℕ
 
 infixl 20 _has_
-abbrev pub _has_ : ℕ → List ℕ → Entry
+abbrev pub _has_ : ℕ → List ℕ → KnownOption
 kind has sizes = record { kind = kind; sizes = sizes }
 
 -- "1 is one byte; 2 has size 4, 3 has 3, 4 has 2, 5 has 10, 18, 26 or 34, 8 has 10"
-abbrev pub table : List Entry
+abbrev pub table : List KnownOption
 table = (noop has (noopSize ∷ []))
     ∷ (maximumSegmentSize has (4 ∷ []))
     ∷ (windowScale has (3 ∷ []))
@@ -74,7 +74,7 @@ abbrev pub numberOf : Kind → ℕ
 numberOf (known n) = n
 numberOf (unknown n) = n
 
-abbrev pub sizesIn : List Entry → ℕ → Sizes
+abbrev pub sizesIn : List KnownOption → ℕ → Sizes
 sizesIn [] n = any
 sizesIn (x ∷ xs) n = pick (eqb n (x .kind)) (oneOf (x .sizes)) (sizesIn xs n)
 
@@ -107,35 +107,35 @@ wrongSize = 10
 -- ---- one option. Its tests go in this order: kind 0, kind 1 (`readKind`); refusal 8 (`readLong`); 9, 10 (`readSized`)
 
 -- what is read at the head of some bytes: an option that is listed, with its size; the end of the options; a refusal
-pub data Reading : Type 0 where
-  lists : Kind → ℕ → Reading
-  ends : Reading
-  refuses : ℕ → Reading
+pub data OptionRead : Type 0 where
+  lists : Kind → ℕ → OptionRead
+  ends : OptionRead
+  refuses : ℕ → OptionRead
 
 -- "option length below 2 or past the end": neither of the two, where `have` bytes are there, from the option's kind on
 unfoldable pub sound : (len have : ℕ) → Bool
 sound len have = pick (ltb len 2) false (leb len have)
 
 -- "9 before 10"; "Any other kind with a sound length is handed out as unknown."
-unfoldable pub readSized : Kind → (len have : ℕ) → Reading
+unfoldable pub readSized : Kind → (len have : ℕ) → OptionRead
 readSized kind len have =
     pick (sound len have)
     (pick (fits len (sizesOf kind)) (lists kind len) (refuses wrongSize))
     (refuses lengthNotSound)
 
 -- "8 comes before 9": `rest` and the bytes for kind and length are what is there
-unfoldable pub readLong : Kind → List ℕ → Reading
+unfoldable pub readLong : Kind → List ℕ → OptionRead
 readLong kind [] = refuses noLengthByte
 readLong kind (len ∷ rest) = readSized kind len (length rest + 2)
 
 -- "0 ends, 1 is one byte"; "kind 1 is listed"; "kind 0 itself isn't listed"
-unfoldable pub readKind : ℕ → List ℕ → Reading
+unfoldable pub readKind : ℕ → List ℕ → OptionRead
 readKind n rest =
     pick (eqb n endOfList) ends
     (pick (eqb n noop) (lists (named n) noopSize)
     (readLong (named n) rest))
 
-unfoldable pub read : List ℕ → Reading
+unfoldable pub read : List ℕ → OptionRead
 read [] = ends
 read (n ∷ rest) = readKind n rest
 
@@ -163,7 +163,7 @@ pub record Options : Type 0 where
   pub ending : Ending
 
 -- what is read at an offset; if that is an option, then what `behind` tells of the bytes behind it, by its size
-abbrev pub step : ℕ → Reading → (ℕ → Options) → Options
+abbrev pub step : ℕ → OptionRead → (ℕ → Options) → Options
 step at (lists kind size) behind = record { list = listed kind at size ∷ behind size .list; ending = behind size .ending }
 step at ends behind = record { list = []; ending = ended at }
 step at (refuses n) behind = record { list = []; ending = refused (row n at) }
@@ -199,7 +199,7 @@ unfoldable pub optionOf : Options → ℕ → Answer
 optionOf o k = nth (o .list) k (endingAnswer (o .ending))
 
 -- what is read at an offset, as an answer
-abbrev pub answerBy : ℕ → Reading → Answer
+abbrev pub answerBy : ℕ → OptionRead → Answer
 answerBy at (lists kind size) = is (listed kind at size)
 answerBy at ends = no-more
 answerBy at (refuses n) = refusal (row n at)

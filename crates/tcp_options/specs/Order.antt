@@ -4,8 +4,8 @@ use mathlib.Core.Path.{_≡_, refl, sym, ap, _∙_}
 use mathlib.Core.List.{List, [], _∷_}
 use native.Mathlib.Omega.{arith}
 use lib.ListN.{length, drop, length-drop}
-use Rattle.tcp_options.specs.Options.{Kind, Reading, lists, ends, refuses, read, Listed, listed, row, Ending, ended, refused, options, is, endingAnswer, nth, optionOf}
-use Rattle.tcp_options.specs.Steps.{lists-fits, from, from-lists, from-ends, from-refuses}
+use Rattle.tcp_options.specs.Options.{Kind, OptionRead, lists, ends, refuses, read, Listed, listed, row, Ending, ended, refused, options, is, endingAnswer, nth, optionOf}
+use Rattle.tcp_options.specs.OneOption.{lists-fits, from, from-lists, from-ends, from-refuses}
 
 -- ---- the options are a chain, and there is no other
 
@@ -25,7 +25,7 @@ pub chain : (s : List ℕ) → Chain s 0 (options s .list) (options s .ending)
 unfolding options from ChainFrom
 chain s = go (length s) 0 (omega arith)
   where
-    step : (at : ℕ) (r : Reading) → read (drop at s) ≡ r → ((size : ℕ) → 1 ≤ size → at + size ≤ length s → ChainFrom s (at + size)) → ChainFrom s at
+    step : (at : ℕ) (r : OptionRead) → read (drop at s) ≡ r → ((size : ℕ) → 1 ≤ size → at + size ≤ length s → ChainFrom s (at + size)) → ChainFrom s at
     step at (lists kind size) e later =
         let z = lists-fits (drop at s) e in
         rw (from-lists s at kind size e) (next e (later size (z .0) (omega (arith, length-drop at s))))
@@ -76,7 +76,8 @@ module _ {s : List ℕ} where
   first-in (last {at} r) o h = absurd (not-is (ended at) h)
   first-in (bad {at} {n} r) o h = absurd (not-is (refused (row n at)) h)
 
-  next-in : {at : ℕ} {os : List Listed} {e : Ending} → Chain s at os e → (k : ℕ) (o p : Listed) → nth os k (endingAnswer e) ≡ is o → nth os (suc k) (endingAnswer e) ≡ is p → p .at ≡ o .at + o .size
+  next-in : {at : ℕ} {os : List Listed} {e : Ending} → Chain s at os e → (k : ℕ) (o p : Listed) → nth os k (endingAnswer e) ≡ is o → nth os (suc k)
+      (endingAnswer e) ≡ is p → p .at ≡ o .at + o .size
   next-in (next r c) zero o p h i = first-in c p i ∙ ap (λ (x : Listed). x .at + x .size) (is-is h)
   next-in (next r c) (suc k) o p h i = next-in c k o p h i
   next-in (last {at} r) k o p h i = absurd (not-is (ended at) h)

@@ -11,8 +11,10 @@ use borrow.Author.Tests.{leb-true, leb-false, eqb-true}
 use Rattle.rules.specs.Bytes.{byteAt}
 use Rattle.rules.specs.Test.{pick}
 use Rattle.tcp_options.specs.declared.answer.OptionRow.{OptionRow}
-use Rattle.tcp_options.specs.Options.{endOfList, noop, noopSize, Kind, named, sizesOf, fits, wrongSize, lengthNotSound, lists, ends, refuses, sound, readSized, readLong, readKind, read, Listed, Ending, ended, refused, Options, options, Answer, is, no-more, refusal, endingAnswer, nth, optionOf}
-use Rattle.tcp_options.specs.Steps.{read-none, read-some}
+use Rattle.tcp_options.specs.Options.{endOfList, noop, noopSize, Kind, named, sizesOf, fits, wrongSize, lengthNotSound, lists, ends, refuses}
+use Rattle.tcp_options.specs.Options.{sound, readSized, readLong, readKind, read, Listed, Ending, ended, refused, Options, options, Answer, is}
+use Rattle.tcp_options.specs.Options.{no-more, refusal, endingAnswer, nth, optionOf}
+use Rattle.tcp_options.specs.OneOption.{read-none, read-some}
 use Rattle.tcp_options.specs.Order.{chain, total, offsetOf, not-is, ends-in, within, sizes-add-up}
 
 -- ---- as many places as there are options have one each, and every later place has the ending

@@ -11,7 +11,8 @@ use Rattle.tcp_options.specs.declared.answer.OptionRefusal.the-variants 
 use Rattle.tcp_options.specs.declared.answer.OptionRow.{OptionRow}
 use Rattle.tcp_options.specs.declared.answer.OptionAnswer.{OptionAnswer}
 use Rattle.tcp_options.specs.declared.answer.OptionAnswer.the-variants as A
-use Rattle.tcp_options.specs.Options.{Kind, known, unknown, noop, maximumSegmentSize, windowScale, selectiveAckPermitted, selectiveAck, noLengthByte, lengthNotSound, Answer, is, no-more, refusal, options, optionOf}
+use Rattle.tcp_options.specs.Options.{Kind, known, unknown, noop, maximumSegmentSize, windowScale, selectiveAckPermitted, selectiveAck}
+use Rattle.tcp_options.specs.Options.{noLengthByte, lengthNotSound, Answer, is, no-more, refusal, options, optionOf}
 use Rattle.tcp_options.specs.Paper.{kindOnPaper, refusalOnPaper, optionOnPaper}
 
 -- ---- from the paper back to the code's answers

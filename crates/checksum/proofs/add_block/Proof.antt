@@ -5,7 +5,7 @@ use Prim.Native.Nat.{_+_, _*_, _-_, _≤_}
 use native.Mathlib.Omega.{arith}
 use lib.ListN.{length}
 use Rattle.checksum.specs.Sum.{fold, addSlice}
-use Rattle.checksum.proofs.Steps.{along, along-two, along-one, along-none}
+use Rattle.checksum.proofs.Blocks.{along, along-two, along-one, along-none}
 use borrow.Author.Needs.{needs}
 use Rattle.checksum.proofs.add_block.Statement.{statement}
 use Rattle.checksum.proofs.add_block.Tie as tie

@@ -5,7 +5,7 @@ use Prim.Native.Nat.{_-_, _≤_}
 use native.Mathlib.Omega.{arith}
 use lib.ListN.{length, drop}
 use Rattle.checksum.specs.Sum.{addSlice}
-use Rattle.checksum.proofs.Steps.{block-on, block-last}
+use Rattle.checksum.proofs.Blocks.{block-on, block-last}
 use borrow.Author.Needs.{needs}
 use Rattle.checksum.proofs.add_blocks.Statement.{statement}
 use Rattle.checksum.proofs.add_blocks.Tie as tie

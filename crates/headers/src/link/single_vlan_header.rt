@@ -1,5 +1,6 @@
 // A VLAN tag, behind the tag type: priority and identifier, then the type of what follows (IEEE 802.1Q, clause 9.6).
 ghost use mathlib.Core.Path.{_≡_};
+ghost use Prim.Native.Nat.{ℕ};
 ghost use Rattle.headers.specs.Says.{linkOnPaper, linkSays};
 ghost use Rattle.rules.specs.declared.kind.Kind.the-variants as K;
 use crate::link::LinkRead;
@@ -7,14 +8,15 @@ use crate::too_short;
 use rules::EtherType;
 use rules::Kind;
 use rules::bytes::be16;
+use rules::field;
 use rules::length;
 
 pub fn read_vlan(w: &[u8]) -> LinkRead
-    ensures { λ r. ⌜ linkOnPaper r ≡ linkSays K.Vlan (now (w .entry)) ⌝ }
+    ensures { λ r. ⌜ ((v : ℕ) → linkOnPaper r ≡ linkSays K.Vlan v (now (w .entry))) ⌝ }
 {
     let have = w.len();
     if have < length::VLAN {
         return LinkRead::Refused(too_short(Kind::Vlan, length::VLAN, have));
     }
-    LinkRead::Whole(EtherType(be16(w, 2)))
+    LinkRead::Whole(EtherType(be16(w, field::VLAN_TYPE)))
 }

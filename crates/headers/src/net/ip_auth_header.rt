@@ -1,24 +1,27 @@
 // The IP authentication header (RFC 4302, section 2). Its length byte counts words of four bytes, two less than there are.
 ghost use mathlib.Core.Path.{_≡_};
+ghost use Prim.Native.Nat.{ℕ};
 ghost use Rattle.headers.specs.Says.{extOnPaper, extSays};
 ghost use Rattle.rules.specs.declared.kind.Kind.the-variants as K;
 use crate::net::ExtHeader;
 use crate::net::ExtRead;
 use crate::too_short;
 use rules::Fault;
+use rules::Fragment;
 use rules::IpNumber;
 use rules::Kind;
 use rules::bytes::byte;
+use rules::field;
 use rules::length;
 
 pub fn read_auth(w: &[u8]) -> ExtRead
-    ensures { λ r. ⌜ extOnPaper r ≡ extSays K.Auth (now (w .entry)) ⌝ }
+    ensures { λ r. ⌜ ((v : ℕ) → extOnPaper r ≡ extSays K.Auth v (now (w .entry))) ⌝ }
 {
     let have = w.len();
     if have < length::AUTH {
         return ExtRead::Refused(too_short(Kind::Auth, length::AUTH, have));
     }
-    let words = byte(w, 1) as usize;
+    let words = byte(w, field::EXT_LENGTH) as usize;
     if words == 0 {
         return ExtRead::Refused(Fault::ZeroAuthLength);
     }
@@ -28,7 +31,7 @@ pub fn read_auth(w: &[u8]) -> ExtRead
     }
     ExtRead::Whole(ExtHeader {
         len,
-        names: IpNumber(byte(w, 0)),
-        fragmenting: false,
+        names: IpNumber(byte(w, field::EXT_NEXT_HEADER)),
+        fragment: Fragment::Not,
     })
 }

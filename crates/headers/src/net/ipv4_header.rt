@@ -1,5 +1,6 @@
 // The IPv4 header (RFC 791, section 3.1).
 ghost use mathlib.Core.Path.{_≡_};
+ghost use Prim.Native.Nat.{ℕ};
 ghost use Rattle.headers.specs.Says.{ipOnPaper, ipSays};
 ghost use Rattle.rules.specs.declared.kind.Kind.the-variants as K;
 use crate::net::IpHeader;
@@ -7,21 +8,23 @@ use crate::net::IpRead;
 use crate::too_short;
 use rules::Bound;
 use rules::Fault;
+use rules::Fragment;
 use rules::IpNumber;
 use rules::Kind;
 use rules::Layer;
 use rules::bytes::be16;
 use rules::bytes::byte;
+use rules::field;
 use rules::length;
 
 pub fn read_ipv4(w: &[u8]) -> IpRead
-    ensures { λ r. ⌜ ipOnPaper r ≡ ipSays K.Ipv4 (now (w .entry)) ⌝ }
+    ensures { λ r. ⌜ ((v : ℕ) → ipOnPaper r ≡ ipSays K.Ipv4 v (now (w .entry))) ⌝ }
 {
     let have = w.len();
     if have < length::IPV4 {
         return IpRead::Refused(too_short(Kind::Ipv4, length::IPV4, have));
     }
-    let first = byte(w, 0) as usize;
+    let first = byte(w, field::IPV4_VERSION_IHL) as usize;
     let version = first / 16;
     if version != 4 {
         return IpRead::Refused(Fault::Ipv4Version { version });
@@ -34,7 +37,7 @@ pub fn read_ipv4(w: &[u8]) -> IpRead
     if have < len {
         return IpRead::Refused(too_short(Kind::Ipv4, len, have));
     }
-    let total = be16(w, 2) as usize;
+    let total = be16(w, field::IPV4_TOTAL_LENGTH) as usize;
     if total < len {
         return IpRead::Refused(Fault::TooShort {
             required: len,
@@ -51,13 +54,12 @@ pub fn read_ipv4(w: &[u8]) -> IpRead
             bound: Bound::Room,
         });
     }
-    let word = be16(w, 6);
-    // the more-fragments bit and the offset below it, in one test
-    let fragmented = word % 0x4000 != 0;
+    let word = be16(w, field::IPV4_FRAGMENT);
+    let fragment = Fragment::by(word % 0x2000, word / 0x2000 % 2);
     IpRead::Whole(IpHeader {
         len,
         declared: total,
-        names: IpNumber(byte(w, 9)),
-        fragmented,
+        names: IpNumber(byte(w, field::IPV4_PROTOCOL)),
+        fragment,
     })
 }

@@ -1,5 +1,6 @@
 // The IPv6 header (RFC 8200, section 3).
 ghost use mathlib.Core.Path.{_≡_};
+ghost use Prim.Native.Nat.{ℕ};
 ghost use Rattle.headers.specs.Says.{ipOnPaper, ipSays};
 ghost use Rattle.rules.specs.declared.kind.Kind.the-variants as K;
 use crate::net::IpHeader;
@@ -7,32 +8,34 @@ use crate::net::IpRead;
 use crate::too_short;
 use rules::Bound;
 use rules::Fault;
+use rules::Fragment;
 use rules::IpNumber;
 use rules::Kind;
 use rules::Layer;
 use rules::bytes::be16;
 use rules::bytes::byte;
+use rules::field;
 use rules::length;
 
 pub fn read_ipv6(w: &[u8]) -> IpRead
-    ensures { λ r. ⌜ ipOnPaper r ≡ ipSays K.Ipv6 (now (w .entry)) ⌝ }
+    ensures { λ r. ⌜ ((v : ℕ) → ipOnPaper r ≡ ipSays K.Ipv6 v (now (w .entry))) ⌝ }
 {
     let have = w.len();
     if have < length::IPV6 {
         return IpRead::Refused(too_short(Kind::Ipv6, length::IPV6, have));
     }
-    let version = (byte(w, 0) as usize) / 16;
+    let version = (byte(w, field::IPV6_VERSION) as usize) / 16;
     if version != 6 {
         return IpRead::Refused(Fault::Ipv6Version { version });
     }
-    let payload = be16(w, 4) as usize;
-    let names = IpNumber(byte(w, 6));
+    let payload = be16(w, field::IPV6_PAYLOAD_LENGTH) as usize;
+    let names = IpNumber(byte(w, field::IPV6_NEXT_HEADER));
     if payload == 0 {
         return IpRead::Whole(IpHeader {
             len: length::IPV6,
             declared: 0,
             names,
-            fragmented: false,
+            fragment: Fragment::Not,
         });
     }
     let declared = length::IPV6 + payload;
@@ -48,6 +51,6 @@ pub fn read_ipv6(w: &[u8]) -> IpRead
         len: length::IPV6,
         declared,
         names,
-        fragmented: false,
+        fragment: Fragment::Not,
     })
 }

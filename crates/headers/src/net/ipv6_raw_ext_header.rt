@@ -1,31 +1,34 @@
 // The three extension headers of one shape: hop-by-hop options, routing, destination options (RFC 8200, sections 4.3, 4.4, 4.6).
 // Their length byte counts units of eight bytes, the first left out.
 ghost use mathlib.Core.Path.{_≡_};
+ghost use Prim.Native.Nat.{ℕ};
 ghost use Rattle.headers.specs.Says.{extOnPaper, rawSays};
 use crate::net::ExtHeader;
 use crate::net::ExtRead;
 use crate::too_short;
+use rules::Fragment;
 use rules::IpNumber;
 use rules::Kind;
 use rules::bytes::byte;
+use rules::field;
 use rules::length;
 
 // `kind` is only the name that a refusal gives the header.
 pub fn read_raw_ext(w: &[u8], kind: Kind) -> ExtRead
-    ensures { λ r. ⌜ extOnPaper r ≡ rawSays kind (now (w .entry)) ⌝ }
+    ensures { λ r. ⌜ ((v : ℕ) → extOnPaper r ≡ rawSays kind v (now (w .entry))) ⌝ }
 {
     let have = w.len();
     if have < length::RAW_EXT {
         return ExtRead::Refused(too_short(kind, length::RAW_EXT, have));
     }
-    let units = byte(w, 1) as usize;
+    let units = byte(w, field::EXT_LENGTH) as usize;
     let len = (units + 1) * 8;
     if have < len {
         return ExtRead::Refused(too_short(kind, len, have));
     }
     ExtRead::Whole(ExtHeader {
         len,
-        names: IpNumber(byte(w, 0)),
-        fragmenting: false,
+        names: IpNumber(byte(w, field::EXT_NEXT_HEADER)),
+        fragment: Fragment::Not,
     })
 }

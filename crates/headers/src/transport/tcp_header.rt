@@ -1,5 +1,6 @@
 // The TCP header (RFC 9293, section 3.1). Its payload ends with its room.
 ghost use mathlib.Core.Path.{_≡_};
+ghost use Prim.Native.Nat.{ℕ};
 ghost use Rattle.headers.specs.Says.{transportOnPaper, tcpSays};
 use crate::too_short;
 use crate::transport::TransportHeader;
@@ -7,16 +8,17 @@ use crate::transport::TransportRead;
 use rules::Fault;
 use rules::Kind;
 use rules::bytes::byte;
+use rules::field;
 use rules::length;
 
 pub fn read_tcp(w: &[u8]) -> TransportRead
-    ensures { λ r. ⌜ transportOnPaper r ≡ tcpSays (now (w .entry)) ⌝ }
+    ensures { λ r. ⌜ ((v : ℕ) → transportOnPaper r ≡ tcpSays v (now (w .entry))) ⌝ }
 {
     let have = w.len();
     if have < length::TCP {
         return TransportRead::Refused(too_short(Kind::Tcp, length::TCP, have));
     }
-    let value = (byte(w, 12) as usize) / 16;
+    let value = (byte(w, field::TCP_DATA_OFFSET) as usize) / 16;
     if value < length::LEAST_WORDS {
         return TransportRead::Refused(Fault::SmallDataOffset { value });
     }

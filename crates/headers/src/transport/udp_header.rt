@@ -1,5 +1,6 @@
 // The UDP header (RFC 768). A length of 0 means the rest of the room (RFC 2675, section 4).
 ghost use mathlib.Core.Path.{_≡_};
+ghost use Prim.Native.Nat.{ℕ};
 ghost use Rattle.headers.specs.Says.{transportOnPaper, udpSays};
 use crate::too_short;
 use crate::transport::TransportHeader;
@@ -9,16 +10,17 @@ use rules::Fault;
 use rules::Kind;
 use rules::Layer;
 use rules::bytes::be16;
+use rules::field;
 use rules::length;
 
 pub fn read_udp(w: &[u8]) -> TransportRead
-    ensures { λ r. ⌜ transportOnPaper r ≡ udpSays (now (w .entry)) ⌝ }
+    ensures { λ r. ⌜ ((v : ℕ) → transportOnPaper r ≡ udpSays v (now (w .entry))) ⌝ }
 {
     let have = w.len();
     if have < length::UDP {
         return TransportRead::Refused(too_short(Kind::Udp, length::UDP, have));
     }
-    let end = be16(w, 4) as usize;
+    let end = be16(w, field::UDP_LENGTH) as usize;
     if end == 0 {
         return TransportRead::Whole(TransportHeader {
             len: length::UDP,

@@ -31,7 +31,12 @@ same-length-2 : tie.Need-same-length-2
 same-length-2 c = search needs
 
 returns-2 : tie.Need-returns-2
-returns-2 c = let z = wrote-all (rw (reply-refuses _ _ (c .before .before .before .before .before .before .before .outcome .result) (c .before .before .before .before .before .before .before .outcome .ensures) (c .before .before .before .before .before .ended .given .1)) at (c .before .before .refused-line .ensures)) in (z .0, (z .1, refl))
+returns-2 c =
+    let b2 = c .before .before in
+    let b5 = b2 .before .before .before in
+    let b7 = b5 .before .before in
+    let z = wrote-all (rw (reply-refuses _ _ (b7 .outcome .result) (b7 .outcome .ensures) (b5 .ended .given .1)) at (b2 .refused-line .ensures)) in
+    (z .0, (z .1, refl))
 
 pub print-spec : {M : Type 1} → statement M
 print-spec =

@@ -1,7 +1,7 @@
--- `main` meets its contract. Assumes nothing.
-use mathlib.Core.Path.{sym}
+-- `main` meets its contract: what it writes out of the buffer is there, since the text is as long as `printed` counted. Assumes nothing.
+use mathlib.Core.Path.{sym, ap, _∙_}
 use native.Mathlib.Omega.{arith}
-use lib.Seq.{length-take-le}
+use lib.ListN.{length, length-take}
 use borrow.Author.Needs.{needs}
 use Rattle.slice_frame.proofs.main.Statement.{statement}
 use Rattle.slice_frame.proofs.main.Tie as tie
@@ -30,20 +30,19 @@ text-requires c κs = search needs
 array-share-prefix-frame : tie.Need-array-share-prefix-frame
 array-share-prefix-frame c = search needs
 
-slice-aggregate-print : tie.Need-slice-aggregate-print
-slice-aggregate-print c = search needs
+slice-aggregate-printed : tie.Need-slice-aggregate-printed
+slice-aggregate-printed c = search needs
 
-slice-aggregate-print-2 : tie.Need-slice-aggregate-print-2
-slice-aggregate-print-2 c = search needs
-
-print-requires : tie.Need-print-requires
-print-requires c κs = search needs
+printed-requires : tie.Need-printed-requires
+printed-requires c κs = search needs
 
 array-share-prefix-out : tie.Need-array-share-prefix-out
-array-share-prefix-out c = search needs
+array-share-prefix-out c =
+    let e = c .printed .ensures in
+    omega (arith, e .0, ap length (e .1), length-take (c .printed .result) (c .printed .last .1 .0))
 
 slice-aggregate-write-all-2 : tie.Need-slice-aggregate-write-all-2
-slice-aggregate-write-all-2 c = sym (length-take-le _ _ (omega arith))
+slice-aggregate-write-all-2 c = let e = c .before .printed .ensures in e .0 ∙ sym (ap length (e .1))
 
 write-all-requires-2 : tie.Need-write-all-requires-2
 write-all-requires-2 c κs = search needs
@@ -63,9 +62,8 @@ main-spec =
     returns
     text-requires
     array-share-prefix-frame
-    slice-aggregate-print
-    slice-aggregate-print-2
-    print-requires
+    slice-aggregate-printed
+    printed-requires
     array-share-prefix-out
     slice-aggregate-write-all-2
     write-all-requires-2

@@ -27,16 +27,32 @@ returns : tie.Need-returns Inv-loop μ-loop
 returns c = (going-last (c .before .before .loop .inv) (c .before .read-option .result) (c .before .read-option .ensures) (c .match .keys2), refl)
 
 returns-2 : tie.Need-returns-2 Inv-loop μ-loop
-returns-2 c = (going-is (c .before .before .before .before .before .loop .inv) (c .before .before .before .before .read-option .ensures) (c .before .before .answer .given .1) (c .if1 .taken), refl)
+returns-2 c =
+    let b2 = c .before .before in
+    let b4 = b2 .before .before in
+    let b5 = b4 .before in
+    (going-is (b5 .loop .inv) (b4 .read-option .ensures) (b2 .answer .given .1) (c .if1 .taken), refl)
 
 add-at : tie.Need-add-at Inv-loop μ-loop
-add-at c = let z = going-fits (c .before .before .before .before .before .loop .inv) (c .before .before .before .before .read-option .ensures) (c .before .before .answer .given .1) in omega arith
+add-at c =
+    let b2 = c .before .before in
+    let b4 = b2 .before .before in
+    let b5 = b4 .before in
+    let z = going-fits (b5 .loop .inv) (b4 .read-option .ensures) (b2 .answer .given .1) in omega arith
 
 add-place : tie.Need-add-place Inv-loop μ-loop
-add-place c = let z = going-fits (c .before .before .before .before .before .loop .inv) (c .before .before .before .before .read-option .ensures) (c .before .before .answer .given .1) in omega (arith, c .before .before .before .before .before .loop .inv .few)
+add-place c =
+    let b2 = c .before .before in
+    let b4 = b2 .before .before in
+    let b5 = b4 .before in
+    let z = going-fits (b5 .loop .inv) (b4 .read-option .ensures) (b2 .answer .given .1) in omega (arith, b5 .loop .inv .few)
 
 loop-less : tie.Need-loop-less Inv-loop μ-loop
-loop-less c = let z = going-fits (c .before .before .before .before .before .loop .inv) (c .before .before .before .before .read-option .ensures) (c .before .before .answer .given .1) in omega arith
+loop-less c =
+    let b2 = c .before .before in
+    let b4 = b2 .before .before in
+    let b5 = b4 .before in
+    let z = going-fits (b5 .loop .inv) (b4 .read-option .ensures) (b2 .answer .given .1) in omega arith
 
 loop-again : tie.Need-loop-again Inv-loop μ-loop
 loop-again c = going-on (c .before .before .before .before .before .loop .inv) (c .before .before .before .before .read-option .ensures) (c .before .before .answer .given .1) (c .if1 .left)

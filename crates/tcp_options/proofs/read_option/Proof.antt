@@ -1,6 +1,6 @@
 -- `read_option` meets its contract. Assumes nothing.
 use borrow.Author.Tests.{not-true, not-false}
-use Rattle.tcp_options.specs.Steps.{read-none, read-end, read-noop, read-no-length, read-not-sound, read-wrong, read-right}
+use Rattle.tcp_options.specs.OneOption.{read-none, read-end, read-noop, read-no-length, read-not-sound, read-wrong, read-right}
 use Rattle.tcp_options.specs.Options.{answerBy}
 use mathlib.Core.Path.{sym, ap, _∙_}
 use borrow.Author.Needs.{needs}

@@ -5,8 +5,8 @@ use borrow.Author.Needs.{needs}
 use Rattle.printing.proofs.line.header_line.Statement.{statement}
 use Rattle.printing.proofs.line.header_line.Tie as tie
 
-kind-name-requires : tie.Need-kind-name-requires
-kind-name-requires c κs = search needs
+name-requires : tie.Need-name-requires
+name-requires c κs = search needs
 
 number-requires : tie.Need-number-requires
 number-requires c κs = search needs
@@ -19,8 +19,12 @@ same-length c = search needs
 
 returns : tie.Need-returns
 unfolding headerLine
-returns c = wrote-word (c .before .before .before .before .before .before .before .before .before .before .kind-name .ensures) (wrote-word (c .before .before .before .before .before .before .number .ensures) (c .before .before .number2 .ensures .wrote))
+returns c =
+    let b2 = c .before .before in
+    let b6 = b2 .before .before .before .before in
+    let b10 = b6 .before .before .before .before in
+    wrote-word (b10 .name .ensures) (wrote-word (b6 .number .ensures) (b2 .number2 .ensures .wrote))
 
 pub header-line-spec : {M : Type 1} → statement M
 header-line-spec =
-    tie.close (tie.spec kind-name-requires number-requires number-requires-2 same-length returns)
+    tie.close (tie.spec name-requires number-requires number-requires-2 same-length returns)

@@ -22,7 +22,11 @@ same-length c = search needs
 
 returns : tie.Need-returns
 unfolding payloadLine
-returns c = wrote-word (c .before .before .before .before .before .before .before .before .before .before .word .ensures) (wrote-word (c .before .before .before .before .before .before .number .ensures) (c .before .before .number2 .ensures .wrote))
+returns c =
+    let b2 = c .before .before in
+    let b6 = b2 .before .before .before .before in
+    let b10 = b6 .before .before .before .before in
+    wrote-word (b10 .word .ensures) (wrote-word (b6 .number .ensures) (b2 .number2 .ensures .wrote))
 
 pub payload-line-spec : {M : Type 1} → statement M
 payload-line-spec =

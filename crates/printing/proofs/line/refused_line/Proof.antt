@@ -18,8 +18,8 @@ word-requires c κs = search needs
 number-requires : tie.Need-number-requires
 number-requires c κs = search needs
 
-layer-name-requires : tie.Need-layer-name-requires
-layer-name-requires c κs = search needs
+name-requires : tie.Need-name-requires
+name-requires c κs = search needs
 
 placed-requires : tie.Need-placed-requires
 placed-requires c κs = search needs
@@ -29,7 +29,14 @@ same-length c = search needs
 
 returns : tie.Need-returns
 unfolding refusedLine
-returns c = rw (sym (c .before .before .before .before .before .before .before .before .before .before .before .before .before .before .before .before .before .row .ensures)) (wrote-word (c .before .before .before .before .before .before .before .before .before .before .before .before .before .before .word .ensures) (wrote-word (c .before .before .before .before .before .before .before .before .before .before .number .ensures) (wrote-word (c .before .before .before .before .before .before .layer-name .ensures) (c .before .before .placed .ensures))))
+returns c =
+    let b2 = c .before .before in
+    let b6 = b2 .before .before .before .before in
+    let b10 = b6 .before .before .before .before in
+    let b14 = b10 .before .before .before .before in
+    let b17 = b14 .before .before .before in
+    rw (sym (b17 .row .ensures))
+    (wrote-word (b14 .word .ensures) (wrote-word (b10 .number .ensures) (wrote-word (b6 .name .ensures) (b2 .placed .ensures))))
 
 pub refused-line-spec : {M : Type 1} → statement M
 refused-line-spec =
@@ -39,7 +46,7 @@ refused-line-spec =
     slice-aggregate-word
     word-requires
     number-requires
-    layer-name-requires
+    name-requires
     placed-requires
     same-length
     returns)

@@ -38,7 +38,12 @@ same-length-3 : tie.Need-same-length-3
 same-length-3 c = search needs
 
 returns-3 : tie.Need-returns-3
-returns-3 c = rw (ne-eqb _ 1 (c .before .before .before .before .before .before .before .if1 .left), ne-eqb _ 2 (c .before .before .before .before .before .before .if2 .left), eq-eqb _ 3 (c .before .before .before .before .before .if3 .taken)) (c .before .before .word3 .ensures)
+returns-3 c =
+    let b2 = c .before .before in
+    let b5 = b2 .before .before .before in
+    let b6 = b5 .before in
+    let b7 = b6 .before in
+    rw (ne-eqb _ 1 (b7 .if1 .left), ne-eqb _ 2 (b6 .if2 .left), eq-eqb _ 3 (b5 .if3 .taken)) (b2 .word3 .ensures)
 
 slice-aggregate-word-4 : tie.Need-slice-aggregate-word-4
 slice-aggregate-word-4 c = search needs
@@ -50,7 +55,12 @@ same-length-4 : tie.Need-same-length-4
 same-length-4 c = search needs
 
 returns-4 : tie.Need-returns-4
-returns-4 c = rw (ne-eqb _ 1 (c .before .before .before .before .before .before .before .if1 .left), ne-eqb _ 2 (c .before .before .before .before .before .before .if2 .left), ne-eqb _ 3 (c .before .before .before .before .before .if3 .left)) (c .before .before .word4 .ensures)
+returns-4 c =
+    let b2 = c .before .before in
+    let b5 = b2 .before .before .before in
+    let b6 = b5 .before in
+    let b7 = b6 .before in
+    rw (ne-eqb _ 1 (b7 .if1 .left), ne-eqb _ 2 (b6 .if2 .left), ne-eqb _ 3 (b5 .if3 .left)) (b2 .word4 .ensures)
 
 pub source-name-spec : {M : Type 1} → statement M
 source-name-spec =

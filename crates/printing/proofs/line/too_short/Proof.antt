@@ -35,7 +35,16 @@ same-length : tie.Need-same-length
 same-length c = search needs
 
 returns : tie.Need-returns
-returns c = wrote-word (c .before .before .before .before .before .before .before .before .before .before .before .before .before .before .before .before .before .before .before .before .before .before .before .before .word .ensures) (wrote-word (c .before .before .before .before .before .before .before .before .before .before .before .before .before .before .before .before .before .before .before .before .number .ensures) (wrote-word (c .before .before .before .before .before .before .before .before .before .before .before .before .before .before .before .word2 .ensures) (wrote-word (c .before .before .before .before .before .before .before .before .before .before .before .number2 .ensures) (wrote-word (c .before .before .before .before .before .before .word3 .ensures) (c .before .before .source-name .ensures .wrote)))))
+returns c =
+    let b2 = c .before .before in
+    let b6 = b2 .before .before .before .before in
+    let b11 = b6 .before .before .before .before .before in
+    let b15 = b11 .before .before .before .before in
+    let b20 = b15 .before .before .before .before .before in
+    let b24 = b20 .before .before .before .before in
+    wrote-word (b24 .word .ensures) (wrote-word (b20 .number .ensures)
+    (wrote-word (b15 .word2 .ensures) (wrote-word (b11 .number2 .ensures)
+    (wrote-word (b6 .word3 .ensures) (b2 .source-name .ensures .wrote)))))
 
 pub too-short-spec : {M : Type 1} → statement M
 too-short-spec =

@@ -24,7 +24,9 @@ mul-result : tie.Need-mul-result
 mul-result c = search needs
 
 returns-2 : tie.Need-returns-2
-returns-2 c = omega (arith, joined 2 2 (byteAt (c .before .before .before .before .args .s .now)) (c .before .before .before .before .args .at), past 2 (c .before .before .before .before .args .s .now) (c .before .before .before .before .args .at + 2) (omega arith))
+returns-2 c =
+    let b4 = c .before .before .before .before in
+    omega (arith, joined 2 2 (byteAt (b4 .args .s .now)) (b4 .args .at), past 2 (b4 .args .s .now) (b4 .args .at + 2) (omega arith))
 
 add-be16 : tie.Need-add-be16
 add-be16 c = search needs
@@ -42,7 +44,14 @@ add-result : tie.Need-add-result
 add-result c = search needs
 
 returns-3 : tie.Need-returns-3
-returns-3 c = let i = c .before .before .before .before .before .args .at in let e : i + 1 + 1 ≡ i + 2 = omega arith in omega (arith, joined 2 2 (byteAt (c .before .before .before .before .before .args .s .now)) i, rw e at (c .be162 .ensures))
+returns-3 c =
+    let b5 = c .before .before .before .before .before in
+    let i = b5 .args .at in let e : i + 1 + 1 ≡ i + 2 = omega arith in omega (
+      arith,
+      joined 2 2 (byteAt (b5 .args .s .now)) i,
+      rw e at
+          (c .be162 .ensures),
+    )
 
 pub be32-spec : {M : Type 1} → statement M
 be32-spec =

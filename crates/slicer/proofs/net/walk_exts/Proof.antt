@@ -1,24 +1,22 @@
 -- `net::walk_exts` meets its contract. Assumes nothing.
-use Prim.Native.Nat.{_-_}
-use native.Mathlib.Omega.{arith}
-use mathlib.Core.Path.{sym, ap, _∙_}
-use Rattle.headers.specs.Says.{extOnPaper}
-use Rattle.turns.specs.Refuses.{failed-row}
-use Rattle.slicer.specs.Reply.{refusedBy}
-use Rattle.slicer.specs.Legs.{went, stuck}
 use Rattle.slicer.proofs.Exts.{Along, along-first, along-short, along-ahead, along-on, along-late, along-ends}
+use Rattle.slicer.specs.Legs.{went, stuck}
+use Rattle.one_header.specs.At.{extAtOnPaper}
+use mathlib.Core.Path.{ap}
+use native.Mathlib.Omega.{arith}
+use Prim.Native.Nat.{_-_}
 use borrow.Author.Needs.{needs}
 use Rattle.slicer.proofs.net.walk_exts.Statement.{statement}
 use Rattle.slicer.proofs.net.walk_exts.Tie as tie
 
 abbrev Inv-loop : tie.InvT-loop
-Inv-loop s from end source number₀ at₀ mark₀ first₀ number at mark first = Along s number₀ from end source number at mark first
+Inv-loop s from end source marked number₀ at₀ mark₀ place₀ number at mark place = Along s number₀ from end source marked number at mark place
 
 abbrev μ-loop : tie.MeasureT-loop
-μ-loop s from end source number₀ at₀ mark₀ first₀ number at mark first = end - at
+μ-loop s from end source marked number₀ at₀ mark₀ place₀ number at mark place = end - at
 
 loop-holds : tie.Need-loop-holds Inv-loop μ-loop
-loop-holds c = along-first _ _ _ _ _ (c .before .pre .0) (c .before .pre .1)
+loop-holds c = along-first _ _ _ _ _ _ (c .before .pre .0) (c .before .pre .1)
 
 ext-turn-requires : tie.Need-ext-turn-requires Inv-loop μ-loop
 ext-turn-requires c κs = search needs
@@ -26,53 +24,80 @@ ext-turn-requires c κs = search needs
 enum-known-turn : tie.Need-enum-known-turn Inv-loop μ-loop
 enum-known-turn c = search needs
 
-sub-read-ext : tie.Need-sub-read-ext Inv-loop μ-loop
-sub-read-ext c = omega (arith, c .before .before .before .before .loop .inv .inside)
+sub-ext-at : tie.Need-sub-ext-at Inv-loop μ-loop
+sub-ext-at c = omega (arith, c .before .before .before .before .loop .inv .inside)
 
-part-read-ext-start : tie.Need-part-read-ext-start Inv-loop μ-loop
-part-read-ext-start c = omega (arith, c .before .before .before .before .loop .inv .inside)
+part-ext-at-start : tie.Need-part-ext-at-start Inv-loop μ-loop
+part-ext-at-start c = omega (arith, c .before .before .before .before .loop .inv .inside)
 
-part-read-ext-end : tie.Need-part-read-ext-end Inv-loop μ-loop
-part-read-ext-end c = omega (arith, c .before .before .before .before .loop .inv .inside, c .before .before .before .before .loop .inv .room)
+part-ext-at-end : tie.Need-part-ext-at-end Inv-loop μ-loop
+part-ext-at-end c = omega (arith, c .before .before .before .before .loop .inv .inside, c .before .before .before .before .loop .inv .room)
 
-read-ext-requires : tie.Need-read-ext-requires Inv-loop μ-loop
-read-ext-requires c κs = search needs
+ext-at-requires : tie.Need-ext-at-requires Inv-loop μ-loop
+ext-at-requires c κs = search needs
 
-enum-known-answer : tie.Need-enum-known-answer Inv-loop μ-loop
-enum-known-answer c = search needs
+enum-known-read : tie.Need-enum-known-read Inv-loop μ-loop
+enum-known-read c = search needs
+
+returns : tie.Need-returns Inv-loop μ-loop
+returns c =
+    let b3 = c .before .before .before in
+    let b6 = b3 .before .before .before in
+    let b8 = b6 .before .before in
+    let b9 = b8 .before in
+    stuck (along-short (b9 .loop .inv) _ (b8 .ext-turn .ensures) _ (b6 .turn .given .1) (b3 .ext-at .ensures) (ap extAtOnPaper (c .before .read .given .1)))
+
+enum-known-read-2 : tie.Need-enum-known-read-2 Inv-loop μ-loop
+enum-known-read-2 c = search needs
+
+add-at : tie.Need-add-at Inv-loop μ-loop
+add-at c =
+    let b3 = c .before .before .before in
+    let b5 = b3 .before .before in
+    let b8 = b5 .before .before .before in
+    let b10 = b8 .before .before in
+    let b11 = b10 .before in
+    let z = along-ahead (b11 .loop .inv) _ (b10 .ext-turn .ensures) _ (b8 .turn .given .1) (b5 .ext-at .ensures) (ap extAtOnPaper
+    (b3 .read2 .given .1)) in omega (arith, z .1, b11 .loop .inv .room)
+
+marks-requires : tie.Need-marks-requires Inv-loop μ-loop
+marks-requires c κs = search needs
+
+loop-less : tie.Need-loop-less Inv-loop μ-loop
+loop-less c =
+    let b4 = c .before .before .before .before in
+    let b6 = b4 .before .before in
+    let b9 = b6 .before .before .before in
+    let b11 = b9 .before .before in
+    let b12 = b11 .before in
+    let z = along-ahead (b12 .loop .inv) _ (b11 .ext-turn .ensures) _ (b9 .turn .given .1) (b6 .ext-at .ensures) (ap extAtOnPaper (b4 .read2 .given .1)) in omega (arith, z .0, z .1)
+
+loop-again : tie.Need-loop-again Inv-loop μ-loop
+loop-again c =
+    let b4 = c .before .before .before .before in
+    let b6 = b4 .before .before in
+    let b9 = b6 .before .before .before in
+    let b11 = b9 .before .before in
+    let b12 = b11 .before in
+    along-on (b12 .loop .inv) _ (b11 .ext-turn .ensures) _ (b9 .turn .given .1) (b6 .ext-at .ensures) (ap extAtOnPaper (b4 .read2 .given .1)) (c .marks .ensures)
 
 enum-told : tie.Need-enum-told Inv-loop μ-loop
 enum-told c = search needs
 
-refuse-ext-requires : tie.Need-refuse-ext-requires Inv-loop μ-loop
-refuse-ext-requires c κs = search needs
-
-returns : tie.Need-returns Inv-loop μ-loop
-returns c = let z = ap extOnPaper (c .before .enum-told .given .1) in stuck (λ f h t. along-short (c .before .before .before .before .before .before .before .before .before .loop .inv) (c .before .before .before .before .before .before .before .before .ext-turn .ensures) _ (c .before .before .before .before .before .before .turn .given .1) (c .before .before .before .read-ext .ensures) z f h t ∙ ap refusedBy (sym (failed-row _ _ (c .refuse-ext .ensures) z)))
-
-add-at : tie.Need-add-at Inv-loop μ-loop
-add-at c = let z = along-ahead (c .before .before .before .before .before .before .before .before .before .before .before .loop .inv) (c .before .before .before .before .before .before .before .before .before .before .ext-turn .ensures) _ (c .before .before .before .before .before .before .before .before .turn .given .1) (c .before .before .before .before .before .read-ext .ensures) (ap extOnPaper (c .before .before .before .answer .given .1)) in omega (arith, c .before .before .before .before .before .before .before .before .before .before .before .loop .inv .inside, c .before .before .before .before .before .before .before .before .before .before .before .loop .inv .room)
-
-either-requires : tie.Need-either-requires Inv-loop μ-loop
-either-requires c κs = search needs
-
-loop-less : tie.Need-loop-less Inv-loop μ-loop
-loop-less c = let z = along-ahead (c .before .before .before .before .before .before .before .before .before .before .before .before .loop .inv) (c .before .before .before .before .before .before .before .before .before .before .before .ext-turn .ensures) _ (c .before .before .before .before .before .before .before .before .before .turn .given .1) (c .before .before .before .before .before .before .read-ext .ensures) (ap extOnPaper (c .before .before .before .before .answer .given .1)) in omega (arith, c .before .before .before .before .before .before .before .before .before .before .before .before .loop .inv .inside)
-
-loop-again : tie.Need-loop-again Inv-loop μ-loop
-loop-again c = along-on (c .before .before .before .before .before .before .before .before .before .before .before .before .loop .inv) (c .before .before .before .before .before .before .before .before .before .before .before .ext-turn .ensures) _ (c .before .before .before .before .before .before .before .before .before .turn .given .1) (c .before .before .before .before .before .before .read-ext .ensures) (ap extOnPaper (c .before .before .before .before .answer .given .1)) (c .either .ensures)
+returns-2 : tie.Need-returns-2 Inv-loop μ-loop
+returns-2 c =
+    let b2 = c .before .before in
+    let b3 = b2 .before in
+    stuck (along-late (b3 .loop .inv) _ (b2 .ext-turn .ensures) (c .enum-told .given .1))
 
 enum-told-2 : tie.Need-enum-told-2 Inv-loop μ-loop
 enum-told-2 c = search needs
 
-returns-2 : tie.Need-returns-2 Inv-loop μ-loop
-returns-2 c = stuck (along-late (c .before .before .before .loop .inv) (c .before .before .ext-turn .ensures) (c .enum-told2 .given .1))
-
-enum-told-3 : tie.Need-enum-told-3 Inv-loop μ-loop
-enum-told-3 c = search needs
-
 returns-3 : tie.Need-returns-3 Inv-loop μ-loop
-returns-3 c = went (along-ends (c .before .before .before .loop .inv) (c .before .before .ext-turn .ensures) (c .enum-told3 .given .1))
+returns-3 c =
+    let b2 = c .before .before in
+    let b3 = b2 .before in
+    went (along-ends (b3 .loop .inv) _ (b2 .ext-turn .ensures) (c .enum-told2 .given .1))
 
 pub walk-exts-spec : {M : Type 1} → statement M
 walk-exts-spec =
@@ -83,19 +108,18 @@ walk-exts-spec =
     loop-holds
     ext-turn-requires
     enum-known-turn
-    sub-read-ext
-    part-read-ext-start
-    part-read-ext-end
-    read-ext-requires
-    enum-known-answer
-    enum-told
-    refuse-ext-requires
+    sub-ext-at
+    part-ext-at-start
+    part-ext-at-end
+    ext-at-requires
+    enum-known-read
     returns
+    enum-known-read-2
     add-at
-    either-requires
+    marks-requires
     loop-less
     loop-again
-    enum-told-2
+    enum-told
     returns-2
-    enum-told-3
+    enum-told-2
     returns-3)

@@ -1,10 +1,9 @@
 -- `walk::slice` meets its contract. Assumes nothing.
-use native.Mathlib.Omega.{arith}
-use mathlib.Core.Path.{refl, sym, ap, _∙_}
-use Rattle.slicer.specs.Reply.{refusedBy}
-use Rattle.slicer.specs.Legs.{linkLegOnPaper, netLegOnPaper, ipKind}
-use Rattle.slicer.proofs.Slices.{reply-is, to-ip, to-stop}
 use Rattle.slicer.proofs.Answers.{there, turned}
+use Rattle.slicer.proofs.Slices.{reply-is, to-ip, to-stop}
+use Rattle.slicer.specs.Legs.{linkLegOnPaper}
+use mathlib.Core.Path.{refl, sym, ap, _∙_}
+use native.Mathlib.Omega.{arith}
 use borrow.Author.Needs.{needs}
 use Rattle.slicer.proofs.walk.slice.Statement.{statement}
 use Rattle.slicer.proofs.walk.slice.Tie as tie
@@ -15,56 +14,66 @@ walk-link-requires c κs = search needs
 enum-known-leg : tie.Need-enum-known-leg
 enum-known-leg c = search needs
 
-enum-told : tie.Need-enum-told
-enum-told c = search needs
-
-link-refusal-requires : tie.Need-link-refusal-requires
-link-refusal-requires c κs = search needs
-
 refused-requires : tie.Need-refused-requires
 refused-requires c κs = search needs
 
 returns : tie.Need-returns
-returns c = let z = ap linkLegOnPaper (c .before .before .enum-told .given .1) in (c .refused .ensures ∙ ap refusedBy (c .before .link-refusal .ensures _ z) ∙ sym (turned (c .before .before .before .before .walk-link .ensures) z) ∙ sym (reply-is _ (c .before .before .before .before .before .before .args .s .now)), refl)
+returns c =
+    let b2 = c .before .before in
+    let b4 = b2 .before .before in
+    let b6 = b4 .before .before in
+    (c .refused .ensures ∙ sym (turned (b4 .walk-link .ensures) (ap linkLegOnPaper (b2 .leg .given .1))) ∙ sym (reply-is _ (b6 .args .s .now)), refl)
 
-is-ip-requires : tie.Need-is-ip-requires
-is-ip-requires c κs = search needs
+enum-known-leg-2 : tie.Need-enum-known-leg-2
+enum-known-leg-2 c = search needs
 
-walk-net-requires : tie.Need-walk-net-requires
-walk-net-requires c κs = (there (c .before .before .before .before .before .before .walk-link .ensures) (ap linkLegOnPaper (c .before .before .before .before .leg .given .1))) .inside
+enum-known-turn : tie.Need-enum-known-turn
+enum-known-turn c = search needs
 
-enum-known-net : tie.Need-enum-known-net
-enum-known-net c = search needs
-
-enum-told-2 : tie.Need-enum-told-2
-enum-told-2 c = search needs
-
-net-refusal-requires : tie.Need-net-refusal-requires
-net-refusal-requires c κs = search needs
-
-refused-requires-2 : tie.Need-refused-requires-2
-refused-requires-2 c κs = search needs
+slice-net-requires : tie.Need-slice-net-requires
+slice-net-requires c κs =
+    let b4 = c .before .before .before .before in
+    let b6 = b4 .before .before in
+    let e = there (b6 .walk-link .ensures) (ap linkLegOnPaper (b4 .leg2 .given .1)) in (e .few, e .inside)
 
 returns-2 : tie.Need-returns-2
-returns-2 c = let z = ap netLegOnPaper (c .before .before .enum-told2 .given .1) in (c .refused2 .ensures ∙ ap refusedBy (c .before .net-refusal .ensures _ z) ∙ sym (turned (c .before .before .before .before .walk-net .ensures) z _ _) ∙ sym (to-ip (there (c .before .before .before .before .before .before .before .before .before .before .before .walk-link .ensures) (ap linkLegOnPaper (c .before .before .before .before .before .before .before .before .before .leg .given .1))) (sym (c .before .before .before .before .before .before .is-ip .ensures) ∙ c .before .before .before .before .before .if1 .taken)) ∙ sym (reply-is _ (c .before .before .before .before .before .before .before .before .before .before .before .before .before .args .s .now)), refl)
+returns-2 c =
+    let b2 = c .before .before in
+    let b5 = b2 .before .before .before in
+    let b7 = b5 .before .before in
+    let b9 = b7 .before .before in
+    let e = there (b7 .walk-link .ensures) (ap linkLegOnPaper (b5 .leg2 .given .1)) in (
+      c .slice-net .ensures 1 ∙ sym (to-ip e (b2 .turn .given .1)) ∙ sym
+          (reply-is _ (b9 .args .s .now)),
+      refl,
+    )
 
-slice-transport-requires : tie.Need-slice-transport-requires
-slice-transport-requires c κs = let e = (there (c .before .before .before .walk-net .ensures) (ap netLegOnPaper (c .before .net .given .1))) in ((there (c .before .before .before .before .before .before .before .before .before .before .walk-link .ensures) (ap linkLegOnPaper (c .before .before .before .before .before .before .before .before .leg .given .1))) .few, e .headed, e .inside, e .room)
+enum-known-turn-2 : tie.Need-enum-known-turn-2
+enum-known-turn-2 c = search needs
 
-returns-3 : tie.Need-returns-3
-returns-3 c = (c .slice-transport .ensures (ipKind (c .before .before .before .before .before .before .before .before .before .leg .given .0 .0 .number .0)) _ ∙ sym ((there (c .before .before .before .before .walk-net .ensures) (ap netLegOnPaper (c .before .before .net .given .1))) .left _ _) ∙ sym (to-ip (there (c .before .before .before .before .before .before .before .before .before .before .before .walk-link .ensures) (ap linkLegOnPaper (c .before .before .before .before .before .before .before .before .before .leg .given .1))) (sym (c .before .before .before .before .before .before .is-ip .ensures) ∙ c .before .before .before .before .before .if1 .taken)) ∙ sym (reply-is _ (c .before .before .before .before .before .before .before .before .before .before .before .before .before .args .s .now)), refl)
-
-sub-t15 : tie.Need-sub-t15
-sub-t15 c = omega (arith, (there (c .before .before .before .before .before .before .walk-link .ensures) (ap linkLegOnPaper (c .before .before .before .before .leg .given .1))) .inside)
-
-link-stop-requires : tie.Need-link-stop-requires
-link-stop-requires c κs = search needs
+sub-t14 : tie.Need-sub-t14
+sub-t14 c =
+    let b5 = c .before .before .before .before .before in
+    let b7 = b5 .before .before in
+    let e = there (b7 .walk-link .ensures) (ap linkLegOnPaper (b5 .leg2 .given .1)) in omega (arith, e .inside)
 
 accepted-requires : tie.Need-accepted-requires
-accepted-requires c κs = (there (c .before .before .before .before .before .before .before .walk-link .ensures) (ap linkLegOnPaper (c .before .before .before .before .before .leg .given .1))) .few
+accepted-requires c κs =
+    let b5 = c .before .before .before .before .before in
+    let b7 = b5 .before .before in
+    let e = there (b7 .walk-link .ensures) (ap linkLegOnPaper (b5 .leg2 .given .1)) in e .few
 
-returns-4 : tie.Need-returns-4
-returns-4 c = (c .accepted .ensures ∙ rw (c .before .link-stop .ensures) (sym (to-stop (there (c .before .before .before .before .before .before .before .before .walk-link .ensures) (ap linkLegOnPaper (c .before .before .before .before .before .before .leg .given .1))) (sym (c .before .before .before .is-ip .ensures) ∙ c .before .before .if1 .left))) ∙ sym (reply-is _ (c .before .before .before .before .before .before .before .before .before .before .args .s .now)), refl)
+returns-3 : tie.Need-returns-3
+returns-3 c =
+    let b3 = c .before .before .before in
+    let b6 = b3 .before .before .before in
+    let b8 = b6 .before .before in
+    let b10 = b8 .before .before in
+    let e = there (b8 .walk-link .ensures) (ap linkLegOnPaper (b6 .leg2 .given .1)) in (
+      c .accepted .ensures ∙ sym (to-stop e (b3 .turn2 .given .1)) ∙ sym
+          (reply-is _ (b10 .args .s .now)),
+      refl,
+    )
 
 pub slice-spec : {M : Type 1} → statement M
 slice-spec =
@@ -72,20 +81,13 @@ slice-spec =
     (tie.spec
     walk-link-requires
     enum-known-leg
-    enum-told
-    link-refusal-requires
     refused-requires
     returns
-    is-ip-requires
-    walk-net-requires
-    enum-known-net
-    enum-told-2
-    net-refusal-requires
-    refused-requires-2
+    enum-known-leg-2
+    enum-known-turn
+    slice-net-requires
     returns-2
-    slice-transport-requires
-    returns-3
-    sub-t15
-    link-stop-requires
+    enum-known-turn-2
+    sub-t14
     accepted-requires
-    returns-4)
+    returns-3)

@@ -1,9 +1,8 @@
 -- `walk::slice_transport` meets its contract. Assumes nothing.
-use native.Mathlib.Omega.{arith}
-use mathlib.Core.Path.{refl, sym, ap, _∙_}
-use Rattle.slicer.specs.Reply.{refusedBy}
-use Rattle.slicer.specs.Legs.{transportLegOnPaper, foundIp, linkParts}
 use Rattle.slicer.proofs.Answers.{there, turned}
+use Rattle.slicer.specs.Legs.{transportLegOnPaper, foundIp, linkParts}
+use mathlib.Core.Path.{refl, sym, ap, _∙_}
+use native.Mathlib.Omega.{arith}
 use borrow.Author.Needs.{needs}
 use Rattle.slicer.proofs.walk.slice_transport.Statement.{statement}
 use Rattle.slicer.proofs.walk.slice_transport.Tie as tie
@@ -14,29 +13,40 @@ walk-transport-requires c κs = (c .before .before .pre .2, c .before .before .p
 enum-known-leg : tie.Need-enum-known-leg
 enum-known-leg c = search needs
 
-enum-told : tie.Need-enum-told
-enum-told c = search needs
-
-transport-refusal-requires : tie.Need-transport-refusal-requires
-transport-refusal-requires c κs = search needs
-
 refused-requires : tie.Need-refused-requires
 refused-requires c κs = search needs
 
 returns : tie.Need-returns
-returns c = let z = ap transportLegOnPaper (c .before .before .enum-told .given .1) in λ k t. c .refused .ensures ∙ ap refusedBy (c .before .transport-refusal .ensures _ z) ∙ sym (turned (c .before .before .before .before .walk-transport .ensures) z (foundIp (c .before .before .before .before .before .before .before .args .found) (linkParts (c .before .before .before .before .before .before .before .args .front .linked) (c .before .before .before .before .before .before .before .args .front .tags))) k t)
+returns c =
+    let b2 = c .before .before in
+    let b4 = b2 .before .before in
+    let b7 = b4 .before .before .before in
+    let a = b7 .args in λ k t i. c .refused .ensures ∙ sym (turned (b4 .walk-transport .ensures) (ap transportLegOnPaper (b2 .leg .given .1)) (foundIp
+    (a .found) (linkParts (a .front .linked) (a .front .tags))) k t i)
+
+enum-known-leg-2 : tie.Need-enum-known-leg-2
+enum-known-leg-2 c = search needs
 
 add-from : tie.Need-add-from
 add-from c = omega (arith, c .before .before .before .before .before .before .before .pre .1)
 
+number-requires : tie.Need-number-requires
+number-requires c κs = search needs
+
 sub-t19 : tie.Need-sub-t19
-sub-t19 c = omega (arith, c .before .before .before .before .before .before .before .pre .1)
+sub-t19 c = omega (arith, c .before .before .before .before .before .before .before .before .pre .1)
 
 accepted-requires : tie.Need-accepted-requires
-accepted-requires c κs = c .before .before .before .before .before .before .before .before .before .pre .0
+accepted-requires c κs = c .before .before .before .before .before .before .before .before .before .before .pre .0
 
 returns-2 : tie.Need-returns-2
-returns-2 c = λ k t. c .accepted .ensures ∙ sym (there (c .before .before .before .before .before .before .before .walk-transport .ensures) (ap transportLegOnPaper (c .before .before .before .before .before .leg .given .1)) (foundIp (c .before .before .before .before .before .before .before .before .before .before .args .found) (linkParts (c .before .before .before .before .before .before .before .before .before .before .args .front .linked) (c .before .before .before .before .before .before .before .before .before .before .args .front .tags))) k t refl)
+returns-2 c =
+    let b3 = c .before .before .before in
+    let b6 = b3 .before .before .before in
+    let b8 = b6 .before .before in
+    let b11 = b8 .before .before .before in
+    let a = b11 .args in λ k t i. c .accepted .ensures ∙ rw (b3 .number2 .ensures) (sym (there (b8 .walk-transport .ensures) (ap transportLegOnPaper
+    (b6 .leg2 .given .1)) (foundIp (a .found) (linkParts (a .front .linked) (a .front .tags))) k t i refl))
 
 pub slice-transport-spec : {M : Type 1} → statement M
 slice-transport-spec =
@@ -44,11 +54,11 @@ slice-transport-spec =
     (tie.spec
     walk-transport-requires
     enum-known-leg
-    enum-told
-    transport-refusal-requires
     refused-requires
     returns
+    enum-known-leg-2
     add-from
+    number-requires
     sub-t19
     accepted-requires
     returns-2)

@@ -1,56 +1,71 @@
 -- `list::headers` meets its contract. Assumes nothing.
+use Rattle.steps.proofs.Loop.{slices-from, Going, going-first, going-long, going-refused, Past, past-stored, past-full, past-early, past-long, past-halt, past-late, past-on}
+use Rattle.rules.specs.Walk.{trace}
+use Rattle.rules.specs.Place.{place}
+use lib.ListN.{length, length-set}
+use mathlib.Core.Logic.{⊎-elim}
+use mathlib.Core.Path.{refl}
 use Prim.Native.Nat.{_-_}
 use native.Mathlib.Omega.{arith}
-use mathlib.Core.Path.{_≡_, refl, ap, _∙_}
-use mathlib.Core.Logic.{⊎-elim}
-use Rattle.rules.specs.Walk.{slices, refusal}
-use lib.ListN.{length-set}
-use Rattle.steps.proofs.Lists.{shut-row, Going, going-first, going-long, going-refused, going-len, withHere, here-stored, here-full, here-early, going-long′, going-halt, going-late, going-ahead, going-on}
 use borrow.Author.Needs.{needs}
 use Rattle.steps.proofs.list.headers.Statement.{statement}
 use Rattle.steps.proofs.list.headers.Tie as tie
 
 abbrev Inv-loop : tie.InvT-loop
-Inv-loop s k out₀ kind₀ at₀ end₀ tags₀ version₀ source₀ mark₀ count₀ room out kind at end tags version source mark count =
-    Going s k (slices kind₀ s) out₀ kind at end tags version source mark count out
+Inv-loop s k out₀ kind₀ at₀ room₀ count₀ spare out kind at room count =
+    Going s k (trace s (place kind₀ at₀ room₀)) out₀ kind at room count out
 
 abbrev μ-loop : tie.MeasureT-loop
-μ-loop s k out₀ kind₀ at₀ end₀ tags₀ version₀ source₀ mark₀ count₀ room out kind at end tags version source mark count =
-    end - at
+μ-loop s k out₀ kind₀ at₀ room₀ count₀ spare out kind at room count =
+    length s - at
 
--- where the ways of the stores meet, the header here is laid out too
-now-laid : (c : tie.Joined1 Inv-loop μ-loop) → c .if1 .out ≡ withHere (c .before .before .before .before .before .before .loop .inv) (c .before .before .before .reading .given .0 .0 .len)
-now-laid c =
-    ⊎-elim (λ w. here-stored (c .before .before .before .before .before .before .loop .inv) _ (w .0 .taken) (w .1 .taken) (w .2 .ensures) (w .3))
-    (⊎-elim (λ w. here-full (c .before .before .before .before .before .before .loop .inv) _ (w .0 .taken) (w .1 .left) (w .2)) (λ w. here-early (c .before .before .before .before .before .before .loop .inv) _ (w .0 .left) (w .1)))
+-- where the ways of the stores meet, the loop is past the header here
+past-here : (c : tie.Joined1 Inv-loop μ-loop) → Past (c .before .before .before .before .before .before .loop .inv) (c .before .before .read2 .given .0 .0) (c .if1 .out)
+past-here c =
+    let b2 = c .before .before in
+    let b4 = b2 .before .before in
+    let g = b4 .before .before .loop .inv in
+    let e = b4 .header-at .ensures in
+    let q = b2 .read2 .given .1 in
+    ⊎-elim (λ w. past-stored g e q (w .0 .taken) (w .1 .taken) (w .2 .ensures) (w .3))
+    (⊎-elim (λ w. past-full g e q (w .0 .taken) (w .1 .left) (w .2)) (λ w. past-early g e q (w .0 .left) (w .1)))
     (c .if1 .came)
 
-entry-kind-requires : tie.Need-entry-kind-requires Inv-loop μ-loop
-entry-kind-requires c κs = search needs
+first-requires : tie.Need-first-requires Inv-loop μ-loop
+first-requires c κs = search needs
 
 loop-holds : tie.Need-loop-holds Inv-loop μ-loop
-loop-holds c = going-first _ _ _ (c .before .before .before .args .entry) (c .entry-kind .ensures)
+loop-holds c = going-first (c .before .before .before .before .args .entry) _ _ _ (c .before .first .ensures .0)
 
-read-at-requires : tie.Need-read-at-requires Inv-loop μ-loop
-read-at-requires c κs = (c .loop .inv .inside, c .loop .inv .room-in)
+sub-header-at : tie.Need-sub-header-at Inv-loop μ-loop
+sub-header-at c = c .loop .inv .inside .inside
 
-enum-known-reading : tie.Need-enum-known-reading Inv-loop μ-loop
-enum-known-reading c = search needs
+part-header-at-start : tie.Need-part-header-at-start Inv-loop μ-loop
+part-header-at-start c = c .loop .inv .inside .inside
 
-enum-told : tie.Need-enum-told Inv-loop μ-loop
-enum-told c = search needs
+part-header-at-end : tie.Need-part-header-at-end Inv-loop μ-loop
+part-header-at-end c = c .loop .inv .inside .room
 
-reading-refusal-requires : tie.Need-reading-refusal-requires Inv-loop μ-loop
-reading-refusal-requires c κs = tt
+header-at-requires : tie.Need-header-at-requires Inv-loop μ-loop
+header-at-requires c κs = search needs
+
+enum-known-read : tie.Need-enum-known-read Inv-loop μ-loop
+enum-known-read c = search needs
 
 same-length : tie.Need-same-length Inv-loop μ-loop
-same-length c = going-long (c .before .before .before .before .loop .inv)
+same-length c = going-long (c .before .before .before .before .before .loop .inv)
 
 returns : tie.Need-returns Inv-loop μ-loop
-returns c = let z = going-refused (c .before .before .before .before .loop .inv) (c .before .before .before .read-at .ensures) (c .before .enum-told .given .1) in rw (← c .before .before .before .before .before .entry-kind .ensures) (ap refusal (c .reading-refusal .ensures _ 0 0 0 (shut-row 0 0 0 (c .before .enum-told .given .1))) ∙ z .0, (z .1, refl))
+returns c =
+    let b3 = c .before .before .before in
+    let b5 = b3 .before .before in
+    let b7 = b5 .before .before in
+    let b10 = b7 .before .before .before in
+    let z = going-refused (b5 .loop .inv) (b3 .header-at .ensures) (c .before .read .given .1) in
+    rw (slices-from (b10 .args .entry) _ (b7 .first .ensures .0)) (z .0, (z .1, refl))
 
-add-past : tie.Need-add-past Inv-loop μ-loop
-add-past c = let z = going-len (c .before .before .before .before .before .loop .inv) (c .before .before .before .before .read-at .ensures) (c .before .before .reading .given .1) in omega (arith, c .before .before .before .before .before .loop .inv .inside, c .before .before .before .before .before .loop .inv .room-in)
+enum-known-read-2 : tie.Need-enum-known-read-2 Inv-loop μ-loop
+enum-known-read-2 c = search needs
 
 mul-base : tie.Need-mul-base Inv-loop μ-loop
 mul-base c = omega arith
@@ -62,7 +77,7 @@ add-third : tie.Need-add-third Inv-loop μ-loop
 add-third c = omega arith
 
 number-requires : tie.Need-number-requires Inv-loop μ-loop
-number-requires c κs = tt
+number-requires c κs = search needs
 
 mul-out : tie.Need-mul-out Inv-loop μ-loop
 mul-out c = search needs
@@ -74,46 +89,71 @@ mul-out-2 : tie.Need-mul-out-2 Inv-loop μ-loop
 mul-out-2 c = search needs
 
 slice-write-out-2 : tie.Need-slice-write-out-2 Inv-loop μ-loop
-slice-write-out-2 c = let z = going-long (c .before .before .before .before .before .before .before .before .loop .inv) in simp length-set (omega (arith, z))
+slice-write-out-2 c =
+    let b8 = c .before .before .before .before .before .before .before .before in
+    let z = going-long (b8 .loop .inv) in simp length-set (omega (arith, z))
 
 mul-out-3 : tie.Need-mul-out-3 Inv-loop μ-loop
 mul-out-3 c = search needs
 
 slice-write-out-3 : tie.Need-slice-write-out-3 Inv-loop μ-loop
-slice-write-out-3 c = let z = going-long (c .before .before .before .before .before .before .before .before .loop .inv) in simp length-set (omega (arith, z))
+slice-write-out-3 c =
+    let b8 = c .before .before .before .before .before .before .before .before in
+    let z = going-long (b8 .loop .inv) in simp length-set (omega (arith, z))
 
 add-count : tie.Need-add-count Inv-loop μ-loop
-add-count c = omega (arith, c .before .before .before .before .before .before .loop .inv .few, c .before .before .before .before .before .before .loop .inv .inside, c .before .before .before .before .before .before .loop .inv .room-in)
+add-count c =
+    let b6 = c .before .before .before .before .before .before in
+    omega (arith, b6 .loop .inv .few .0, b6 .loop .inv .inside .inside, b6 .loop .inv .inside .room)
+
+add-past : tie.Need-add-past Inv-loop μ-loop
+add-past c = let z = past-here (c .before) .sizes in omega (arith, z)
 
 enum-known-turn : tie.Need-enum-known-turn Inv-loop μ-loop
 enum-known-turn c = search needs
 
-tags-with-requires : tie.Need-tags-with-requires Inv-loop μ-loop
-tags-with-requires c κs = omega (arith, c .before .before .before .before .before .before .before .before .before .loop .inv .fewer, c .before .before .before .before .before .before .before .before .before .loop .inv .inside, c .before .before .before .before .before .before .before .before .before .loop .inv .room-in)
+room-behind-requires : tie.Need-room-behind-requires Inv-loop μ-loop
+room-behind-requires c κs =
+    let b4 = c .before .before .before .before in
+    let b10 = b4 .before .before .before .before .before .before in
+    let z = past-here b4 .sizes in omega (arith, z, b10 .loop .inv .few)
 
 loop-less : tie.Need-loop-less Inv-loop μ-loop
-loop-less c = let z = going-ahead (c .before .before .before .before .before .before .before .before .before .before .loop .inv) (c .before .before .before .before .before .before .before .before .before .read-at .ensures) (c .before .before .before .before .before .before .before .reading .given .1) (now-laid (c .before .before .before .before)) _ (c .before .before .turn .given .1) in omega (arith, c .before .before .before .before .before .before .before .before .before .before .loop .inv .inside)
+loop-less c = let z = past-here (c .before .before .before .before .before) .sizes in omega (arith, z)
 
 loop-again : tie.Need-loop-again Inv-loop μ-loop
-loop-again c = going-on (c .before .before .before .before .before .before .before .before .before .before .loop .inv) (c .before .before .before .before .before .before .before .before .before .read-at .ensures) (c .before .before .before .before .before .before .before .reading .given .1) (now-laid (c .before .before .before .before)) _ (c .before .before .turn .given .1) (c .tags-with .ensures)
+loop-again c =
+    let b2 = c .before .before in
+    let b5 = b2 .before .before .before in
+    past-on _ (past-here b5) (b2 .turn .given .1) (c .room-behind .ensures)
+
+enum-told : tie.Need-enum-told Inv-loop μ-loop
+enum-told c = search needs
+
+same-length-2 : tie.Need-same-length-2 Inv-loop μ-loop
+same-length-2 c = past-long _ (past-here (c .before .before .before))
+
+returns-2 : tie.Need-returns-2 Inv-loop μ-loop
+returns-2 c =
+    let b3 = c .before .before .before in
+    let b11 = b3 .before .before .before .before .before .before .before .before in
+    let b14 = b11 .before .before .before in
+    let z = past-halt _ (past-here b3) (c .enum-told .given .1) in
+    rw (slices-from (b14 .args .entry) _ (b11 .first .ensures .0)) (z .0, (z .1, refl))
 
 enum-told-2 : tie.Need-enum-told-2 Inv-loop μ-loop
 enum-told-2 c = search needs
 
-same-length-2 : tie.Need-same-length-2 Inv-loop μ-loop
-same-length-2 c = going-long′ (c .before .before .before .before .before .before .before .before .loop .inv) (c .before .before .before .before .before .before .before .read-at .ensures) (c .before .before .before .before .before .reading .given .1) (now-laid (c .before .before))
-
-returns-2 : tie.Need-returns-2 Inv-loop μ-loop
-returns-2 c = let z = going-halt (c .before .before .before .before .before .before .before .before .loop .inv) (c .before .before .before .before .before .before .before .read-at .ensures) (c .before .before .before .before .before .reading .given .1) (now-laid (c .before .before)) _ (c .enum-told2 .given .1) in rw (← c .before .before .before .before .before .before .before .before .before .entry-kind .ensures) (z .0, (z .1, refl))
-
-enum-told-3 : tie.Need-enum-told-3 Inv-loop μ-loop
-enum-told-3 c = search needs
-
 same-length-3 : tie.Need-same-length-3 Inv-loop μ-loop
-same-length-3 c = going-long′ (c .before .before .before .before .before .before .before .before .loop .inv) (c .before .before .before .before .before .before .before .read-at .ensures) (c .before .before .before .before .before .reading .given .1) (now-laid (c .before .before))
+same-length-3 c = past-long _ (past-here (c .before .before .before))
 
 returns-3 : tie.Need-returns-3 Inv-loop μ-loop
-returns-3 c = let z = going-late (c .before .before .before .before .before .before .before .before .loop .inv) (c .before .before .before .before .before .before .before .read-at .ensures) (c .before .before .before .before .before .reading .given .1) (now-laid (c .before .before)) (c .enum-told3 .given .1) in rw (← c .before .before .before .before .before .before .before .before .before .entry-kind .ensures) (z .0, (z .1, refl))
+returns-3 c =
+    let b3 = c .before .before .before in
+    let b11 = b3 .before .before .before .before .before .before .before .before in
+    let b14 = b11 .before .before .before in
+    let z = past-late _ (past-here b3) (c .enum-told2 .given .1) in
+    rw (slices-from (b14 .args .entry) _ (b11 .first .ensures .0)) (z .0, (z .1, refl))
 
 pub headers-spec : {M : Type 1} → statement M
 headers-spec =
@@ -121,15 +161,16 @@ headers-spec =
     (tie.spec
     Inv-loop
     μ-loop
-    entry-kind-requires
+    first-requires
     loop-holds
-    read-at-requires
-    enum-known-reading
-    enum-told
-    reading-refusal-requires
+    sub-header-at
+    part-header-at-start
+    part-header-at-end
+    header-at-requires
+    enum-known-read
     same-length
     returns
-    add-past
+    enum-known-read-2
     mul-base
     add-second
     add-third
@@ -141,13 +182,14 @@ headers-spec =
     mul-out-3
     slice-write-out-3
     add-count
+    add-past
     enum-known-turn
-    tags-with-requires
+    room-behind-requires
     loop-less
     loop-again
-    enum-told-2
+    enum-told
     same-length-2
     returns-2
-    enum-told-3
+    enum-told-2
     same-length-3
     returns-3)

@@ -29,7 +29,12 @@ unfolding named
 returns-6 c = rw (c .if6 .taken)
 
 returns-7 : tie.Need-returns-7
-returns-7 c = named-unknown _ (c .before .before .before .before .before .if1 .left) (c .before .before .before .before .if2 .left) (c .before .before .before .if3 .left) (c .before .before .if4 .left) (c .before .if5 .left) (c .if6 .left)
+returns-7 c =
+    let b2 = c .before .before in
+    let b3 = b2 .before in
+    let b4 = b3 .before in
+    let b5 = b4 .before in
+    named-unknown _ (b5 .if1 .left) (b4 .if2 .left) (b3 .if3 .left) (b2 .if4 .left) (c .before .if5 .left) (c .if6 .left)
 
 pub kind-of-spec : {M : Type 1} → statement M
 kind-of-spec =

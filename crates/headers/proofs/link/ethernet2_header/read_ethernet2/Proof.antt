@@ -13,14 +13,14 @@ too-short-requires c κs = search needs
 
 returns : tie.Need-returns
 unfolding says testsBy seenBy
-returns c = judged (off (beyond (c .before .if1 .taken)) (c .too-short .ensures))
+returns c = λ v. judged (off (beyond (c .before .if1 .taken)) (c .too-short .ensures))
 
 be16-requires : tie.Need-be16-requires
 be16-requires c κs = search needs
 
 returns-2 : tie.Need-returns-2
 unfolding says testsBy seenBy
-returns-2 c = judged (on (c .before .if1 .left) (done (ap etherType (c .be16 .ensures))))
+returns-2 c = λ v. judged (on (c .before .if1 .left) (done (ap etherType (c .be16 .ensures))))
 
 pub read-ethernet2-spec : {M : Type 1} → statement M
 read-ethernet2-spec = tie.close (tie.spec too-short-requires returns be16-requires returns-2)

@@ -13,20 +13,20 @@ too-short-requires c κs = search needs
 
 returns : tie.Need-returns
 unfolding says testsBy seenBy
-returns c = judged (off (beyond (c .before .if1 .taken)) (c .too-short .ensures))
+returns c = λ v. judged (off (beyond (c .before .if1 .taken)) (c .too-short .ensures))
 
 be16-requires : tie.Need-be16-requires
 be16-requires c κs = search needs
 
-fragmenting-requires : tie.Need-fragmenting-requires
-fragmenting-requires c κs = search needs
+by-requires : tie.Need-by-requires
+by-requires c κs = search needs
 
 byte-requires : tie.Need-byte-requires
 byte-requires c κs = search needs
 
 returns-2 : tie.Need-returns-2
 unfolding says testsBy seenBy
-returns-2 c = simp (← c .before .before .be16 .ensures, ← c .before .fragmenting .ensures, ← c .byte .ensures) (judged (on (c .before .before .before .if1 .left) (done (refl))))
+returns-2 c = λ v. simp (← c .before .before .be16 .ensures, ← c .before .by .ensures, ← c .byte .ensures) (judged (on (c .before .before .before .if1 .left) (done (refl))))
 
 pub read-fragment-spec : {M : Type 1} → statement M
 read-fragment-spec =
@@ -35,6 +35,6 @@ read-fragment-spec =
     too-short-requires
     returns
     be16-requires
-    fragmenting-requires
+    by-requires
     byte-requires
     returns-2)

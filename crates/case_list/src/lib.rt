@@ -1,8 +1,0 @@
-// What the programs with lists of cases share: a list is text; its cases are compared, and each outcome is printed and counted.
-mod compare;
-mod list;
-mod tally;
-mod text;
-
-pub use list::run;
-pub use tally::Tally;

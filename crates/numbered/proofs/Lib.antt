@@ -1,2 +1,0 @@
--- Laws that the proofs here share: header k out of a list and a count.
-pub mod Numbered
