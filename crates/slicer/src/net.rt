@@ -52,7 +52,7 @@ pub enum ExtsLeg {
 }
 
 // IPv4 opens AUTH at most, and once.
-fn walk_auth(
+fn ipv4_exts_slice(
     s: &[u8],
     begin: IpNumber,
     from: usize,
@@ -89,7 +89,7 @@ fn walk_auth(
 }
 
 // A loop, so that the stack does not grow with the chain.
-fn walk_exts(
+fn ipv6_exts_slice(
     s: &[u8],
     begin: IpNumber,
     from: usize,
@@ -133,7 +133,7 @@ fn walk_exts(
 }
 
 // The extensions of an IP header of a version, from the number that it names on.
-fn walk_chain(
+fn ip_exts_slice(
     s: &[u8],
     kind: IpKind,
     begin: IpNumber,
@@ -146,8 +146,8 @@ fn walk_chain(
     ensures { λ r. ⌜ Extended (now (s .entry)) (ipKindOf kind) begin from end source marked (extsLegOnPaper r) ⌝ }
 {
     match kind {
-        IpKind::Ipv4 => walk_auth(s, begin, from, end, source, marked),
-        IpKind::Ipv6 => walk_exts(s, begin, from, end, source, marked),
+        IpKind::Ipv4 => ipv4_exts_slice(s, begin, from, end, source, marked),
+        IpKind::Ipv6 => ipv6_exts_slice(s, begin, from, end, source, marked),
     }
 }
 
@@ -160,7 +160,7 @@ fn ip_at(w: &[u8], kind: IpKind, at: usize, source: RoomSource) -> IpAt
     }
 }
 
-pub fn walk_net(s: &[u8], kind: IpKind, at: usize, end: usize, source: RoomSource) -> NetLeg
+pub fn slice_ip(s: &[u8], kind: IpKind, at: usize, end: usize, source: RoomSource) -> NetLeg
     requires { ⌜ (at ≤ end) × (end ≤ length (now s)) ⌝ }
     ensures { λ r. ⌜ Netted (now (s .entry)) (ipKindOf kind) at end source (netLegOnPaper r) ⌝ }
 {
@@ -176,7 +176,7 @@ pub fn walk_net(s: &[u8], kind: IpKind, at: usize, end: usize, source: RoomSourc
             let begin = x.names;
             let fragment = x.fragment;
             let mark = fragment.marks(false);
-            let leg = walk_chain(s, kind, begin, from, inner, sets, mark);
+            let leg = ip_exts_slice(s, kind, begin, from, inner, sets, mark);
             match leg {
                 ExtsLeg::Refused(refusal) => {
                     return NetLeg::Refused(refusal);

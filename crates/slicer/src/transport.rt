@@ -70,7 +70,7 @@ fn opened(number: IpNumber, kind: Kind, at: usize, x: TransportHeader) -> Transp
     }
 }
 
-pub fn walk_transport(
+pub fn slice_transport(
     s: &[u8],
     number: IpNumber,
     at: usize,

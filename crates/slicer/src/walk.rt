@@ -32,10 +32,10 @@ ghost use Rattle.slicer.specs.Legs.{
 };
 use crate::link::LinkFound;
 use crate::link::LinkLeg;
-use crate::link::walk_link;
+use crate::link::slice_link;
 use crate::net::NetFound;
 use crate::net::NetLeg;
-use crate::net::walk_net;
+use crate::net::slice_ip;
 use crate::packet::IpPart;
 use crate::packet::LinkPart;
 use crate::packet::NetPart;
@@ -43,7 +43,7 @@ use crate::packet::Outcome;
 use crate::packet::SlicedPacket;
 use crate::packet::TransportPart;
 use crate::transport::TransportLeg;
-use crate::transport::walk_transport;
+use crate::transport::slice_transport;
 use one_header::IpKind;
 use one_header::LinkEnd;
 use rules::Ending;
@@ -148,7 +148,7 @@ fn accepted(
     }
 }
 
-fn slice_transport(s: &[u8], front: LinkFound, found: NetFound) -> SlicedPacket
+fn behind_ip(s: &[u8], front: LinkFound, found: NetFound) -> SlicedPacket
     requires { ⌜ (front .tags ≤ tagLimit) × (found .begin + found .len ≤ found .at) × (found .at ≤ found .end) × (found .end ≤ length (now s)) ⌝ }
     ensures { λ r. ⌜ ((k : AnyKind) (t i : ℕ) → packetOnPaper r ≡ onTransport (now (s .entry)) (foundIp found (linkParts (front .linked) (front .tags))) (netRoom k (found .end) t i (found .source) (found .mark)) (found .number) (found .at)) ⌝ }
 {
@@ -156,7 +156,7 @@ fn slice_transport(s: &[u8], front: LinkFound, found: NetFound) -> SlicedPacket
     let source = found.source;
     let kind = found.kind;
     let at = found.at;
-    let leg = walk_transport(s, number, at, found.end, source, found.mark);
+    let leg = slice_transport(s, number, at, found.end, source, found.mark);
     match leg {
         TransportLeg::Refused(refusal) => {
             return refused(refusal);
@@ -186,17 +186,17 @@ fn slice_transport(s: &[u8], front: LinkFound, found: NetFound) -> SlicedPacket
     }
 }
 
-fn slice_net(s: &[u8], front: LinkFound, kind: IpKind) -> SlicedPacket
+fn behind_link(s: &[u8], front: LinkFound, kind: IpKind) -> SlicedPacket
     requires { ⌜ (front .tags ≤ tagLimit) × (front .at ≤ length (now s)) ⌝ }
     ensures { λ r. ⌜ ((i : ℕ) → packetOnPaper r ≡ gather sliceWay (linkParts (front .linked) (front .tags)) (now (s .entry)) (netPlace (ipKindOf kind) (front .at) (length (now (s .entry))) (front .tags) 0 i S.Slice false)) ⌝ }
 {
-    let net = walk_net(s, kind, front.at, s.len(), RoomSource::Slice);
+    let net = slice_ip(s, kind, front.at, s.len(), RoomSource::Slice);
     match net {
         NetLeg::Refused(refusal) => {
             return refused(refusal);
         }
         NetLeg::Open(found) => {
-            return slice_transport(s, front, found);
+            return behind_ip(s, front, found);
         }
     }
 }
@@ -206,7 +206,7 @@ pub fn slice(s: &[u8], entry: Entry) -> SlicedPacket
     ensures reply { λ r. ⌜ packetOnPaper r ≡ replyOf entry (now (s .entry)) ⌝ }
     ensures unwritten { λ r. ⌜ now (s .exit) ≡ now (s .entry) ⌝ }
 {
-    let leg = walk_link(s, entry);
+    let leg = slice_link(s, entry);
     match leg {
         LinkLeg::Refused(refusal) => {
             return refused(refusal);
@@ -215,7 +215,7 @@ pub fn slice(s: &[u8], entry: Entry) -> SlicedPacket
             let turn = front.turn;
             match turn {
                 LinkEnd::Opens(kind) => {
-                    return slice_net(s, front, kind);
+                    return behind_link(s, front, kind);
                 }
                 LinkEnd::Stops(stop) => {
                     let number = front.number;

@@ -1,12 +1,12 @@
--- `net::walk_auth` meets its contract. Assumes nothing.
+-- `net::ipv4_exts_slice` meets its contract. Assumes nothing.
 use Rattle.slicer.proofs.Nets.{begun, auth-none, auth-short, auth-in, auth-done}
 use Rattle.slicer.specs.Legs.{went, stuck}
 use Rattle.one_header.specs.At.{extAtOnPaper}
 use mathlib.Core.Path.{ap}
 use native.Mathlib.Omega.{arith}
 use borrow.Author.Needs.{needs}
-use Rattle.slicer.proofs.net.walk_auth.Statement.{statement}
-use Rattle.slicer.proofs.net.walk_auth.Tie as tie
+use Rattle.slicer.proofs.net.ipv4_exts_slice.Statement.{statement}
+use Rattle.slicer.proofs.net.ipv4_exts_slice.Tie as tie
 
 opens-auth-requires : tie.Need-opens-auth-requires
 opens-auth-requires c κs = search needs
@@ -65,8 +65,8 @@ returns-3 c =
     went (auth-done (begun _ _ _ _ _ _ (b11 .pre .0) (b11 .pre .1)) (b8 .before .opens-auth .ensures) (b8 .if1 .left) (b6 .ext-at .ensures)
     (ap extAtOnPaper (b4 .read2 .given .1)) (c .marks .ensures))
 
-pub walk-auth-spec : {M : Type 1} → statement M
-walk-auth-spec =
+pub ipv4-exts-slice-spec : {M : Type 1} → statement M
+ipv4-exts-slice-spec =
     tie.close
     (tie.spec
     opens-auth-requires

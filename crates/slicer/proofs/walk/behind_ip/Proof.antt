@@ -1,14 +1,14 @@
--- `walk::slice_transport` meets its contract. Assumes nothing.
+-- `walk::behind_ip` meets its contract. Assumes nothing.
 use Rattle.slicer.proofs.Answers.{there, turned}
 use Rattle.slicer.specs.Legs.{transportLegOnPaper, foundIp, linkParts}
 use mathlib.Core.Path.{refl, sym, ap, _∙_}
 use native.Mathlib.Omega.{arith}
 use borrow.Author.Needs.{needs}
-use Rattle.slicer.proofs.walk.slice_transport.Statement.{statement}
-use Rattle.slicer.proofs.walk.slice_transport.Tie as tie
+use Rattle.slicer.proofs.walk.behind_ip.Statement.{statement}
+use Rattle.slicer.proofs.walk.behind_ip.Tie as tie
 
-walk-transport-requires : tie.Need-walk-transport-requires
-walk-transport-requires c κs = (c .before .before .pre .2, c .before .before .pre .3)
+slice-transport-requires : tie.Need-slice-transport-requires
+slice-transport-requires c κs = (c .before .before .pre .2, c .before .before .pre .3)
 
 enum-known-leg : tie.Need-enum-known-leg
 enum-known-leg c = search needs
@@ -21,7 +21,7 @@ returns c =
     let b2 = c .before .before in
     let b4 = b2 .before .before in
     let b7 = b4 .before .before .before in
-    let a = b7 .args in λ k t i. c .refused .ensures ∙ sym (turned (b4 .walk-transport .ensures) (ap transportLegOnPaper (b2 .leg .given .1)) (foundIp
+    let a = b7 .args in λ k t i. c .refused .ensures ∙ sym (turned (b4 .slice-transport .ensures) (ap transportLegOnPaper (b2 .leg .given .1)) (foundIp
     (a .found) (linkParts (a .front .linked) (a .front .tags))) k t i)
 
 enum-known-leg-2 : tie.Need-enum-known-leg-2
@@ -45,14 +45,14 @@ returns-2 c =
     let b6 = b3 .before .before .before in
     let b8 = b6 .before .before in
     let b11 = b8 .before .before .before in
-    let a = b11 .args in λ k t i. c .accepted .ensures ∙ rw (b3 .number2 .ensures) (sym (there (b8 .walk-transport .ensures) (ap transportLegOnPaper
+    let a = b11 .args in λ k t i. c .accepted .ensures ∙ rw (b3 .number2 .ensures) (sym (there (b8 .slice-transport .ensures) (ap transportLegOnPaper
     (b6 .leg2 .given .1)) (foundIp (a .found) (linkParts (a .front .linked) (a .front .tags))) k t i refl))
 
 pub slice-transport-spec : {M : Type 1} → statement M
 slice-transport-spec =
     tie.close
     (tie.spec
-    walk-transport-requires
+    slice-transport-requires
     enum-known-leg
     refused-requires
     returns

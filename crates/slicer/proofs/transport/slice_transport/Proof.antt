@@ -1,4 +1,4 @@
--- `transport::walk_transport` meets its contract. Assumes nothing.
+-- `transport::slice_transport` meets its contract. Assumes nothing.
 use Rattle.slicer.proofs.Carries.{unopened, udp-short, udp-in, udp-on, tcp-short, tcp-in, tcp-on}
 use Rattle.slicer.specs.Legs.{went, stuck}
 use Rattle.rules.specs.Place.{endingOnPaper}
@@ -8,8 +8,8 @@ use Rattle.one_header.specs.At.{transportAtOnPaper}
 use mathlib.Core.Path.{sym, ap, _∙_}
 use native.Mathlib.Omega.{arith}
 use borrow.Author.Needs.{needs}
-use Rattle.slicer.proofs.transport.walk_transport.Statement.{statement}
-use Rattle.slicer.proofs.transport.walk_transport.Tie as tie
+use Rattle.slicer.proofs.transport.slice_transport.Statement.{statement}
+use Rattle.slicer.proofs.transport.slice_transport.Tie as tie
 
 transport-turn-requires : tie.Need-transport-turn-requires
 transport-turn-requires c κs = search needs
@@ -127,8 +127,8 @@ returns-5 c =
     (ap transportAtOnPaper (b2 .read4 .given .1)) f k t i ∙ sym (ap (λ (x : TransportFound). acceptedBy (withTransport f (x .transport))
     (endingOnPaper (x .ending))) (c .opened2 .ensures)))
 
-pub walk-transport-spec : {M : Type 1} → statement M
-walk-transport-spec =
+pub slice-transport-spec : {M : Type 1} → statement M
+slice-transport-spec =
     tie.close
     (tie.spec
     transport-turn-requires

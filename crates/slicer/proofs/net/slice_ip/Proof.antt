@@ -1,4 +1,4 @@
--- `net::walk_net` meets its contract. Assumes nothing.
+-- `net::slice_ip` meets its contract. Assumes nothing.
 use Rattle.slicer.proofs.Nets.{ip-answer, ip-short, ip-in, ip-done, ip-stuck}
 use Rattle.slicer.proofs.Answers.{there, turned}
 use Rattle.slicer.specs.Legs.{went, stuck, extsLegOnPaper}
@@ -6,8 +6,8 @@ use Rattle.one_header.specs.At.{ipAtOnPaper}
 use mathlib.Core.Path.{ap}
 use native.Mathlib.Omega.{arith}
 use borrow.Author.Needs.{needs}
-use Rattle.slicer.proofs.net.walk_net.Statement.{statement}
-use Rattle.slicer.proofs.net.walk_net.Tie as tie
+use Rattle.slicer.proofs.net.slice_ip.Statement.{statement}
+use Rattle.slicer.proofs.net.slice_ip.Tie as tie
 
 sub-ip-at : tie.Need-sub-ip-at
 sub-ip-at c = search needs
@@ -50,8 +50,8 @@ add-inner c =
 marks-requires : tie.Need-marks-requires
 marks-requires c κs = search needs
 
-walk-chain-requires : tie.Need-walk-chain-requires
-walk-chain-requires c κs =
+ip-exts-slice-requires : tie.Need-ip-exts-slice-requires
+ip-exts-slice-requires c κs =
     let b5 = c .before .before .before .before .before in
     let b7 = b5 .before .before in
     let b10 = b7 .before .before .before in
@@ -68,7 +68,7 @@ returns-2 c =
     let b11 = b9 .before .before in
     let b14 = b11 .before .before .before in
     stuck (ip-stuck (ip-answer _ (b14 .pre .0) (b14 .pre .1) (b11 .ip-at .ensures)) (ap ipAtOnPaper (b9 .read2 .given .1)) (b4 .marks .ensures)
-    (turned (b3 .walk-chain .ensures) (ap extsLegOnPaper (c .before .leg .given .1))))
+    (turned (b3 .ip-exts-slice .ensures) (ap extsLegOnPaper (c .before .leg .given .1))))
 
 enum-known-leg-2 : tie.Need-enum-known-leg-2
 enum-known-leg-2 c = search needs
@@ -85,10 +85,10 @@ returns-3 c =
     let b13 = b11 .before .before in
     let b16 = b13 .before .before .before in
     went (ip-done (ip-answer _ (b16 .pre .0) (b16 .pre .1) (b13 .ip-at .ensures)) (ap ipAtOnPaper (b11 .read2 .given .1)) (b6 .marks .ensures)
-    (c .kind .ensures) (there (b5 .walk-chain .ensures) (ap extsLegOnPaper (b3 .leg2 .given .1))))
+    (c .kind .ensures) (there (b5 .ip-exts-slice .ensures) (ap extsLegOnPaper (b3 .leg2 .given .1))))
 
-pub walk-net-spec : {M : Type 1} → statement M
-walk-net-spec =
+pub slice-ip-spec : {M : Type 1} → statement M
+slice-ip-spec =
     tie.close
     (tie.spec
     sub-ip-at
@@ -101,7 +101,7 @@ walk-net-spec =
     add-from
     add-inner
     marks-requires
-    walk-chain-requires
+    ip-exts-slice-requires
     enum-known-leg
     returns-2
     enum-known-leg-2

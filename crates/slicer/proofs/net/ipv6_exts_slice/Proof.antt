@@ -1,4 +1,4 @@
--- `net::walk_exts` meets its contract. Assumes nothing.
+-- `net::ipv6_exts_slice` meets its contract. Assumes nothing.
 use Rattle.slicer.proofs.Exts.{Along, along-first, along-short, along-ahead, along-on, along-late, along-ends}
 use Rattle.slicer.specs.Legs.{went, stuck}
 use Rattle.one_header.specs.At.{extAtOnPaper}
@@ -6,8 +6,8 @@ use mathlib.Core.Path.{ap}
 use native.Mathlib.Omega.{arith}
 use Prim.Native.Nat.{_-_}
 use borrow.Author.Needs.{needs}
-use Rattle.slicer.proofs.net.walk_exts.Statement.{statement}
-use Rattle.slicer.proofs.net.walk_exts.Tie as tie
+use Rattle.slicer.proofs.net.ipv6_exts_slice.Statement.{statement}
+use Rattle.slicer.proofs.net.ipv6_exts_slice.Tie as tie
 
 abbrev Inv-loop : tie.InvT-loop
 Inv-loop s from end source marked number₀ at₀ mark₀ place₀ number at mark place = Along s number₀ from end source marked number at mark place
@@ -99,8 +99,8 @@ returns-3 c =
     let b3 = b2 .before in
     went (along-ends (b3 .loop .inv) _ (b2 .ext-turn .ensures) (c .enum-told2 .given .1))
 
-pub walk-exts-spec : {M : Type 1} → statement M
-walk-exts-spec =
+pub ipv6-exts-slice-spec : {M : Type 1} → statement M
+ipv6-exts-slice-spec =
     tie.close
     (tie.spec
     Inv-loop
