@@ -48,8 +48,8 @@ returns-2 c =
     let a = b11 .args in λ k t i. c .accepted .ensures ∙ rw (b3 .number2 .ensures) (sym (there (b8 .slice-transport .ensures) (ap transportLegOnPaper
     (b6 .leg2 .given .1)) (foundIp (a .found) (linkParts (a .front .linked) (a .front .tags))) k t i refl))
 
-pub slice-transport-spec : {M : Type 1} → statement M
-slice-transport-spec =
+pub behind-ip-spec : {M : Type 1} → statement M
+behind-ip-spec =
     tie.close
     (tie.spec
     slice-transport-requires

@@ -43,8 +43,8 @@ returns-2 c =
     let a = b6 .args in λ i. c .behind-ip .ensures (ipKindOf (a .kind)) (a .front .tags) i ∙ sym (there (b4 .slice-ip .ensures) (ap netLegOnPaper
     (b2 .net2 .given .1)) .left (linkParts (a .front .linked) (a .front .tags)) (a .front .tags) 0 i false)
 
-pub slice-net-spec : {M : Type 1} → statement M
-slice-net-spec =
+pub behind-link-spec : {M : Type 1} → statement M
+behind-link-spec =
     tie.close
     (tie.spec
     slice-ip-requires
