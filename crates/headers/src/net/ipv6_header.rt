@@ -12,13 +12,14 @@ use rules::Fragment;
 use rules::IpNumber;
 use rules::Kind;
 use rules::Layer;
-use rules::bytes::be16;
-use rules::bytes::byte;
+use big_endian::be16;
+use big_endian::byte;
 use rules::field;
 use rules::length;
 
 pub fn read_ipv6(w: &[u8]) -> IpRead
-    ensures { λ r. ⌜ ((v : ℕ) → ipOnPaper r ≡ ipSays K.Ipv6 v (now (w .entry))) ⌝ }
+    ensures answer { λ r. ⌜ ((v : ℕ) → ipOnPaper r ≡ ipSays K.Ipv6 v (now (w .entry))) ⌝ }
+    ensures unwritten { λ r. ⌜ now (w .exit) ≡ now (w .entry) ⌝ }
 {
     let have = w.len();
     if have < length::IPV6 {

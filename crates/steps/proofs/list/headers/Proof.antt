@@ -25,7 +25,7 @@ past-here c =
     let b2 = c .before .before in
     let b4 = b2 .before .before in
     let g = b4 .before .before .loop .inv in
-    let e = b4 .header-at .ensures in
+    let e = b4 .header-at .ensures .0 in
     let q = b2 .read2 .given .1 in
     ⊎-elim (λ w. past-stored g e q (w .0 .taken) (w .1 .taken) (w .2 .ensures) (w .3))
     (⊎-elim (λ w. past-full g e q (w .0 .taken) (w .1 .left) (w .2)) (λ w. past-early g e q (w .0 .left) (w .1)))
@@ -61,7 +61,7 @@ returns c =
     let b5 = b3 .before .before in
     let b7 = b5 .before .before in
     let b10 = b7 .before .before .before in
-    let z = going-refused (b5 .loop .inv) (b3 .header-at .ensures) (c .before .read .given .1) in
+    let z = going-refused (b5 .loop .inv) (b3 .header-at .ensures .0) (c .before .read .given .1) in
     rw (slices-from (b10 .args .entry) _ (b7 .first .ensures .0)) (z .0, (z .1, refl))
 
 enum-known-read-2 : tie.Need-enum-known-read-2 Inv-loop μ-loop

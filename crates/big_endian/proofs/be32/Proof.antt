@@ -1,15 +1,15 @@
--- `bytes::be32` meets its contract. Assumes nothing.
-use mathlib.Core.Path.{_≡_}
+-- `be32` meets its contract. Assumes nothing.
+use mathlib.Core.Path.{_≡_, refl}
 use Prim.Native.Nat.{_+_}
 use mathlib.Core.Path.{sym}
 use native.Mathlib.Omega.{arith}
 use Rattle.rules.specs.Bytes.{byteAt, number, joined, past}
 use borrow.Author.Needs.{needs}
-use Rattle.rules.proofs.bytes.be32.Statement.{statement}
-use Rattle.rules.proofs.bytes.be32.Tie as tie
+use Rattle.big_endian.proofs.be32.Statement.{statement}
+use Rattle.big_endian.proofs.be32.Tie as tie
 
 returns : tie.Need-returns
-returns c = sym (past 4 (c .before .before .args .s .now) (c .before .before .args .at) (c .if1 .taken))
+returns c = (sym (past 4 (c .before .before .args .s .now) (c .before .before .args .at) (c .if1 .taken)), refl)
 
 add-next : tie.Need-add-next
 add-next c = search needs
@@ -25,8 +25,8 @@ mul-result c = search needs
 
 returns-2 : tie.Need-returns-2
 returns-2 c =
-    let b4 = c .before .before .before .before in
-    omega (arith, joined 2 2 (byteAt (b4 .args .s .now)) (b4 .args .at), past 2 (b4 .args .s .now) (b4 .args .at + 2) (omega arith))
+    (let b4 = c .before .before .before .before in
+    omega (arith, joined 2 2 (byteAt (b4 .args .s .now)) (b4 .args .at), past 2 (b4 .args .s .now) (b4 .args .at + 2) (omega arith)), refl)
 
 add-be16 : tie.Need-add-be16
 add-be16 c = search needs
@@ -45,13 +45,13 @@ add-result c = search needs
 
 returns-3 : tie.Need-returns-3
 returns-3 c =
-    let b5 = c .before .before .before .before .before in
+    (let b5 = c .before .before .before .before .before in
     let i = b5 .args .at in let e : i + 1 + 1 ≡ i + 2 = omega arith in omega (
       arith,
       joined 2 2 (byteAt (b5 .args .s .now)) i,
       rw e at
-          (c .be162 .ensures),
-    )
+          (c .be162 .ensures .0),
+    ), refl)
 
 pub be32-spec : {M : Type 1} → statement M
 be32-spec =

@@ -1,15 +1,15 @@
--- `bytes::be16` meets its contract. Assumes nothing.
+-- `be16` meets its contract. Assumes nothing.
 use Rattle.rules.specs.Bytes.{one}
 use Prim.Native.Nat.{_+_}
-use mathlib.Core.Path.{sym}
+use mathlib.Core.Path.{sym, refl}
 use native.Mathlib.Omega.{arith}
 use Rattle.rules.specs.Bytes.{byteAt, number, joined, past}
 use borrow.Author.Needs.{needs}
-use Rattle.rules.proofs.bytes.be16.Statement.{statement}
-use Rattle.rules.proofs.bytes.be16.Tie as tie
+use Rattle.big_endian.proofs.be16.Statement.{statement}
+use Rattle.big_endian.proofs.be16.Tie as tie
 
 returns : tie.Need-returns
-returns c = sym (past 2 (c .before .before .args .s .now) (c .before .before .args .at) (c .if1 .taken))
+returns c = (sym (past 2 (c .before .before .args .s .now) (c .before .before .args .at) (c .if1 .taken)), refl)
 
 byte-requires : tie.Need-byte-requires
 byte-requires c κs = search needs
@@ -33,7 +33,7 @@ add-result : tie.Need-add-result
 add-result c = search needs
 
 returns-2 : tie.Need-returns-2
-returns-2 c = let g = byteAt (c .before .before .before .before .args .s .now) in let i = c .before .before .before .before .args .at in omega (arith, joined 1 1 g i, one g i, one g (i + 1))
+returns-2 c = (let g = byteAt (c .before .before .before .before .args .s .now) in let i = c .before .before .before .before .args .at in omega (arith, joined 1 1 g i, one g i, one g (i + 1)), refl)
 
 pub be16-spec : {M : Type 1} → statement M
 be16-spec =
