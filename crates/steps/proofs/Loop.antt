@@ -33,7 +33,9 @@ use Rattle.one_header.specs.declared.header.HeaderFound.{HeaderFound}
 use Rattle.one_header.specs.declared.header.HeaderRead.{HeaderRead}
 use Rattle.one_header.specs.declared.header.HeaderRead.the-variants as D
 use Rattle.one_header.specs.Header.{leftBy, foundOnPaper}
-use Rattle.steps.specs.Lists.{headersRead, writtenFrom}
+use Rattle.laws.specs.Zeros.{zeros}
+use Rattle.steps.specs.Lists.{headersRead, headersListed, writtenFrom, listOf}
+use Rattle.steps.specs.Places.{opens, opens-there}
 use Rattle.steps.proofs.Step.{ReadAs, reading, sizes}
 use Rattle.steps.proofs.Written.{written-length, written-none, written-more, written-full, written-early, one-written}
 
@@ -54,9 +56,9 @@ gathered-all (refused hs r) = ap (λ (l : List HeaderAt). refused l r) (listed-a
 gathered-all unfinished = refl
 
 -- the walk of a frame that opens at p
-pub slices-from : (e : Entry) (s : List ℕ) {p : Place} → next p ≡ opening e s → slices e s ≡ trace s p
+pub slices-from : (e : Entry) (s : List ℕ) (p : Place) → opens (next p) ≡ opens (opening e s) → slices e s ≡ trace s p
 unfolding slices
-slices-from e s q = ap (onward s) (sym q)
+slices-from e s p q = ap (onward s) (sym (opens-there (opening e s) q))
 
 -- ---- the loop
 
@@ -74,9 +76,9 @@ one-over : (b : Bool) (n m : ℕ) → n ≤ m → pick b (n + 1) n ≤ m + 1
 one-over true n m h = omega arith
 one-over false n m h = omega arith
 
-pub going-first : (e : Entry) (s : List ℕ) (k : ℕ) (o : List ℕ) {p : Place} → next p ≡ opening e s → Going s k (trace s p) o (p .kind) (p .at) (p .room) 0 o
+pub going-first : (e : Entry) (s : List ℕ) (k : ℕ) (o : List ℕ) (p : Place) → opens (next p) ≡ opens (opening e s) → Going s k (trace s p) o (p .kind) (p .at) (p .room) 0 o
 unfolding opening start gather
-going-first e s k o {p} q = go e q
+going-first e s k o p q = go e (opens-there (opening e s) q)
   where
     from : (j : Kind) → next p ≡ next (start j s) → Going s k (trace s p) o (p .kind) (p .at) (p .room) 0 o
     from j q =
@@ -218,3 +220,19 @@ unfolding headerOf countOf
 header-refused k (accepted hs x) e = cc
 header-refused k (refused hs q) {r = r} e = let z : r ≡ q = cc in ap refusal z
 header-refused k unfinished e = cc
+
+-- ---- the list
+
+-- of an accepted frame it is what was written
+pub list-accepted : (k : ℕ) (t : Trace HeaderAt) (m : ℕ) {o : List ℕ} {n : ℕ} → is n ≡ countOf t → o ≡ writtenFrom k (headersRead t) (zeros m) → o ≡ listOf t k m
+unfolding countOf headersRead headersListed listOf
+list-accepted k (accepted hs x) m e l = l
+list-accepted k (refused hs r) m e l = cc
+list-accepted k unfinished m e l = cc
+
+-- of a refused one it is zeros
+pub list-refused : (k : ℕ) (t : Trace HeaderAt) (m : ℕ) {o : List ℕ} {r : Row} → refusal r ≡ countOf t → o ≡ zeros m → o ≡ listOf t k m
+unfolding countOf headersListed listOf
+list-refused k (accepted hs x) m e l = cc
+list-refused k (refused hs q) m e l = l ∙ sym (written-none k _)
+list-refused k unfinished m e l = l ∙ sym (written-none k _)

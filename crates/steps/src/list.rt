@@ -1,8 +1,16 @@
 // The headers of a frame as numbers, by number, and their count. All three are one walk, and it is finished before anything
 // is answered: a refused frame answers its refusal alone.
 ghost use mathlib.Core.Path.{_≡_};
+ghost use lib.ListN.{length};
 ghost use Rattle.rules.specs.Walk.{headerOf, countOf, slices};
-ghost use Rattle.steps.specs.Lists.{headerOnPaper, countOnPaper, headersRead, writtenFrom};
+ghost use Rattle.laws.specs.Zeros.{zeros};
+ghost use Rattle.steps.specs.Lists.{
+  headerOnPaper,
+  countOnPaper,
+  headersRead,
+  writtenFrom,
+  listOf,
+};
 use crate::place::first;
 use crate::place::room_behind;
 use one_header::HeaderRead;
@@ -24,12 +32,22 @@ pub enum CountAnswer {
     Refused(Refusal),
 }
 
-// The headers of a frame from number k on, three numbers each (kind, offset, length), as many as the lent numbers have
-// room for; the answer is how many headers the frame has. Of a refused frame the headers before the refusal are written too.
-pub fn headers(s: &[u8], entry: Entry, k: usize, out: &mut [usize]) -> CountAnswer
+// All the lent numbers become zeros: no header has the kind 0.
+fn clear(out: &mut [usize])
+    ensures { λ _. ⌜ now (out .exit) ≡ zeros (length (now (out .entry))) ⌝ }
+{
+    let mut i: usize = 0;
+    while i < out.len() {
+        out[i] = 0;
+        i += 1;
+    }
+}
+
+// Counts the headers, and writes those from number k on as it comes to them. Whether the frame is refused shows behind the last one, so
+// of a refused frame some are written.
+fn walk(s: &[u8], entry: Entry, k: usize, out: &mut [usize]) -> CountAnswer
     ensures answer { λ r. ⌜ countOnPaper r ≡ countOf (slices entry (now (s .entry))) ⌝ }
     ensures listed { λ r. ⌜ now (out .exit) ≡ writtenFrom k (headersRead (slices entry (now (s .entry)))) (now (out .entry)) ⌝ }
-    ensures unwritten { λ r. ⌜ now (s .exit) ≡ now (s .entry) ⌝ }
 {
     let begin = first(s, entry);
     let mut kind = begin.kind;
@@ -77,13 +95,31 @@ pub fn headers(s: &[u8], entry: Entry, k: usize, out: &mut [usize]) -> CountAnsw
     }
 }
 
+// The headers of a frame from number k on, three numbers each (kind, offset, length), as many as the lent numbers have room for, and
+// zeros behind them; the answer is how many headers the frame has. Of a refused frame there are zeros alone.
+pub fn headers(s: &[u8], entry: Entry, k: usize, out: &mut [usize]) -> CountAnswer
+    ensures answer { λ r. ⌜ countOnPaper r ≡ countOf (slices entry (now (s .entry))) ⌝ }
+    ensures listed { λ r. ⌜ now (out .exit) ≡ listOf (slices entry (now (s .entry))) k (length (now (out .entry))) ⌝ }
+    ensures unwritten { λ r. ⌜ now (s .exit) ≡ now (s .entry) ⌝ }
+{
+    clear(out);
+    let counted = walk(s, entry, k, out);
+    match counted {
+        CountAnswer::Is(count) => CountAnswer::Is(count),
+        CountAnswer::Refused(refusal) => {
+            clear(out);
+            CountAnswer::Refused(refusal)
+        }
+    }
+}
+
 // Header number k of a frame.
 pub fn header(s: &[u8], entry: Entry, k: usize) -> HeaderAnswer
     ensures answer { λ r. ⌜ headerOnPaper r ≡ headerOf (slices entry (now (s .entry))) k ⌝ }
     ensures unwritten { λ r. ⌜ now (s .exit) ≡ now (s .entry) ⌝ }
 {
     let mut one: [usize; HEADER_WORDS] = [0; HEADER_WORDS];
-    let counted = headers(s, entry, k, &mut one);
+    let counted = walk(s, entry, k, &mut one);
     match counted {
         CountAnswer::Is(count) => {
             if k < count {
@@ -105,5 +141,5 @@ pub fn count(s: &[u8], entry: Entry) -> CountAnswer
     ensures unwritten { λ r. ⌜ now (s .exit) ≡ now (s .entry) ⌝ }
 {
     let mut none: [usize; 0] = [];
-    headers(s, entry, 0, &mut none)
+    walk(s, entry, 0, &mut none)
 }

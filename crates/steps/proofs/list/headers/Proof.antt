@@ -1,195 +1,73 @@
 -- `list::headers` meets its contract. Assumes nothing.
-use Rattle.steps.proofs.Loop.{slices-from, Going, going-first, going-long, going-refused, Past, past-stored, past-full, past-early, past-long, past-halt, past-late, past-on}
-use Rattle.rules.specs.Walk.{trace}
-use Rattle.rules.specs.Place.{place}
-use lib.ListN.{length, length-set}
-use mathlib.Core.Logic.{⊎-elim}
-use mathlib.Core.Path.{refl}
-use Prim.Native.Nat.{_-_}
-use native.Mathlib.Omega.{arith}
+use mathlib.Core.Path.{refl, sym, ap, _∙_}
+use mathlib.Core.List.{List}
+use Prim.Native.Nat.{ℕ}
+use lib.ListN.{length, length-replicate}
 use borrow.Author.Needs.{needs}
+use Rattle.rules.specs.Walk.{slices}
+use Rattle.laws.specs.Zeros.{zeros}
+use Rattle.steps.specs.Lists.{countOnPaper, headersRead, writtenFrom}
+use Rattle.steps.proofs.Loop.{list-accepted, list-refused}
+use Rattle.steps.proofs.Written.{written-length}
 use Rattle.steps.proofs.list.headers.Statement.{statement}
 use Rattle.steps.proofs.list.headers.Tie as tie
 
-abbrev Inv-loop : tie.InvT-loop
-Inv-loop s k out₀ kind₀ at₀ room₀ count₀ spare out kind at room count =
-    Going s k (trace s (place kind₀ at₀ room₀)) out₀ kind at room count out
+clear-requires : tie.Need-clear-requires
+clear-requires c κs = search needs
 
-abbrev μ-loop : tie.MeasureT-loop
-μ-loop s k out₀ kind₀ at₀ room₀ count₀ spare out kind at room count =
-    length s - at
+walk-requires : tie.Need-walk-requires
+walk-requires c κs = search needs
 
--- where the ways of the stores meet, the loop is past the header here
-past-here : (c : tie.Joined1 Inv-loop μ-loop) → Past (c .before .before .before .before .before .before .loop .inv) (c .before .before .read2 .given .0 .0) (c .if1 .out)
-past-here c =
-    let b2 = c .before .before in
-    let b4 = b2 .before .before in
-    let g = b4 .before .before .loop .inv in
-    let e = b4 .header-at .ensures .0 in
-    let q = b2 .read2 .given .1 in
-    ⊎-elim (λ w. past-stored g e q (w .0 .taken) (w .1 .taken) (w .2 .ensures) (w .3))
-    (⊎-elim (λ w. past-full g e q (w .0 .taken) (w .1 .left) (w .2)) (λ w. past-early g e q (w .0 .left) (w .1)))
-    (c .if1 .came)
+enum-known-counted : tie.Need-enum-known-counted
+enum-known-counted c = search needs
 
-first-requires : tie.Need-first-requires Inv-loop μ-loop
-first-requires c κs = search needs
+enum-known-counted-2 : tie.Need-enum-known-counted-2
+enum-known-counted-2 c = search needs
 
-loop-holds : tie.Need-loop-holds Inv-loop μ-loop
-loop-holds c = going-first (c .before .before .before .before .args .entry) _ _ _ (c .before .first .ensures .0)
+clear-requires-2 : tie.Need-clear-requires-2
+clear-requires-2 c κs = search needs
 
-sub-header-at : tie.Need-sub-header-at Inv-loop μ-loop
-sub-header-at c = c .loop .inv .inside .inside
+same-length : tie.Need-same-length
+same-length c = search needs
 
-part-header-at-start : tie.Need-part-header-at-start Inv-loop μ-loop
-part-header-at-start c = c .loop .inv .inside .inside
-
-part-header-at-end : tie.Need-part-header-at-end Inv-loop μ-loop
-part-header-at-end c = c .loop .inv .inside .room
-
-header-at-requires : tie.Need-header-at-requires Inv-loop μ-loop
-header-at-requires c κs = search needs
-
-enum-known-read : tie.Need-enum-known-read Inv-loop μ-loop
-enum-known-read c = search needs
-
-same-length : tie.Need-same-length Inv-loop μ-loop
-same-length c = going-long (c .before .before .before .before .before .loop .inv)
-
-returns : tie.Need-returns Inv-loop μ-loop
+returns : tie.Need-returns
 returns c =
-    let b3 = c .before .before .before in
-    let b5 = b3 .before .before in
-    let b7 = b5 .before .before in
-    let b10 = b7 .before .before .before in
-    let z = going-refused (b5 .loop .inv) (b3 .header-at .ensures .0) (c .before .read .given .1) in
-    rw (slices-from (b10 .args .entry) _ (b7 .first .ensures .0)) (z .0, (z .1, refl))
+    let b5 = c .before .before .before .before .before in
+    let b9 = b5 .before .before .before .before in
+    let b13 = b9 .before .before .before .before in
+    let k = b13 .args .k in
+    let t = slices (b13 .args .entry) (b13 .args .s .now) in
+    let e = sym (ap countOnPaper (c .before .counted .given .1)) ∙ b5 .walk .ensures .0 in
+    (e, (list-accepted k t (length (b13 .args .out .now)) e
+    (b5 .walk .ensures .1 ∙ ap (λ (o : List ℕ). writtenFrom k (headersRead t) o) (b9 .clear .ensures)), refl))
 
-enum-known-read-2 : tie.Need-enum-known-read-2 Inv-loop μ-loop
-enum-known-read-2 c = search needs
+same-length-2 : tie.Need-same-length-2
+same-length-2 c = search needs
 
-mul-base : tie.Need-mul-base Inv-loop μ-loop
-mul-base c = omega arith
-
-add-second : tie.Need-add-second Inv-loop μ-loop
-add-second c = omega arith
-
-add-third : tie.Need-add-third Inv-loop μ-loop
-add-third c = omega arith
-
-number-requires : tie.Need-number-requires Inv-loop μ-loop
-number-requires c κs = search needs
-
-mul-out : tie.Need-mul-out Inv-loop μ-loop
-mul-out c = search needs
-
-slice-write-out : tie.Need-slice-write-out Inv-loop μ-loop
-slice-write-out c = let z = going-long (c .before .before .before .before .before .before .before .before .loop .inv) in omega (arith, z)
-
-mul-out-2 : tie.Need-mul-out-2 Inv-loop μ-loop
-mul-out-2 c = search needs
-
-slice-write-out-2 : tie.Need-slice-write-out-2 Inv-loop μ-loop
-slice-write-out-2 c =
-    let b8 = c .before .before .before .before .before .before .before .before in
-    let z = going-long (b8 .loop .inv) in simp length-set (omega (arith, z))
-
-mul-out-3 : tie.Need-mul-out-3 Inv-loop μ-loop
-mul-out-3 c = search needs
-
-slice-write-out-3 : tie.Need-slice-write-out-3 Inv-loop μ-loop
-slice-write-out-3 c =
-    let b8 = c .before .before .before .before .before .before .before .before in
-    let z = going-long (b8 .loop .inv) in simp length-set (omega (arith, z))
-
-add-count : tie.Need-add-count Inv-loop μ-loop
-add-count c =
-    let b6 = c .before .before .before .before .before .before in
-    omega (arith, b6 .loop .inv .few .0, b6 .loop .inv .inside .inside, b6 .loop .inv .inside .room)
-
-add-past : tie.Need-add-past Inv-loop μ-loop
-add-past c = let z = past-here (c .before) .sizes in omega (arith, z)
-
-enum-known-turn : tie.Need-enum-known-turn Inv-loop μ-loop
-enum-known-turn c = search needs
-
-room-behind-requires : tie.Need-room-behind-requires Inv-loop μ-loop
-room-behind-requires c κs =
-    let b4 = c .before .before .before .before in
-    let b10 = b4 .before .before .before .before .before .before in
-    let z = past-here b4 .sizes in omega (arith, z, b10 .loop .inv .few)
-
-loop-less : tie.Need-loop-less Inv-loop μ-loop
-loop-less c = let z = past-here (c .before .before .before .before .before) .sizes in omega (arith, z)
-
-loop-again : tie.Need-loop-again Inv-loop μ-loop
-loop-again c =
+returns-2 : tie.Need-returns-2
+returns-2 c =
     let b2 = c .before .before in
     let b5 = b2 .before .before .before in
-    past-on _ (past-here b5) (b2 .turn .given .1) (c .room-behind .ensures)
-
-enum-told : tie.Need-enum-told Inv-loop μ-loop
-enum-told c = search needs
-
-same-length-2 : tie.Need-same-length-2 Inv-loop μ-loop
-same-length-2 c = past-long _ (past-here (c .before .before .before))
-
-returns-2 : tie.Need-returns-2 Inv-loop μ-loop
-returns-2 c =
-    let b3 = c .before .before .before in
-    let b11 = b3 .before .before .before .before .before .before .before .before in
-    let b14 = b11 .before .before .before in
-    let z = past-halt _ (past-here b3) (c .enum-told .given .1) in
-    rw (slices-from (b14 .args .entry) _ (b11 .first .ensures .0)) (z .0, (z .1, refl))
-
-enum-told-2 : tie.Need-enum-told-2 Inv-loop μ-loop
-enum-told-2 c = search needs
-
-same-length-3 : tie.Need-same-length-3 Inv-loop μ-loop
-same-length-3 c = past-long _ (past-here (c .before .before .before))
-
-returns-3 : tie.Need-returns-3 Inv-loop μ-loop
-returns-3 c =
-    let b3 = c .before .before .before in
-    let b11 = b3 .before .before .before .before .before .before .before .before in
-    let b14 = b11 .before .before .before in
-    let z = past-late _ (past-here b3) (c .enum-told2 .given .1) in
-    rw (slices-from (b14 .args .entry) _ (b11 .first .ensures .0)) (z .0, (z .1, refl))
+    let b9 = b5 .before .before .before .before in
+    let b13 = b9 .before .before .before .before in
+    let b17 = b13 .before .before .before .before in
+    let k = b17 .args .k in
+    let t = slices (b17 .args .entry) (b17 .args .s .now) in
+    let n = length (b17 .args .out .now) in
+    let e = sym (ap countOnPaper (b5 .counted2 .given .1)) ∙ b9 .walk .ensures .0 in
+    let long = ap length (b9 .walk .ensures .1) ∙ written-length k (headersRead t) _ ∙ ap length (b13 .clear .ensures) ∙ length-replicate n 0 in
+    (e, (list-refused k t n e (b2 .clear2 .ensures ∙ ap zeros long), refl))
 
 pub headers-spec : {M : Type 1} → statement M
 headers-spec =
     tie.close
     (tie.spec
-    Inv-loop
-    μ-loop
-    first-requires
-    loop-holds
-    sub-header-at
-    part-header-at-start
-    part-header-at-end
-    header-at-requires
-    enum-known-read
+    clear-requires
+    walk-requires
+    enum-known-counted
+    enum-known-counted-2
+    clear-requires-2
     same-length
     returns
-    enum-known-read-2
-    mul-base
-    add-second
-    add-third
-    number-requires
-    mul-out
-    slice-write-out
-    mul-out-2
-    slice-write-out-2
-    mul-out-3
-    slice-write-out-3
-    add-count
-    add-past
-    enum-known-turn
-    room-behind-requires
-    loop-less
-    loop-again
-    enum-told
     same-length-2
-    returns-2
-    enum-told-2
-    same-length-3
-    returns-3)
+    returns-2)
