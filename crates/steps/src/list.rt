@@ -33,7 +33,7 @@ pub enum CountAnswer {
 }
 
 // All the lent numbers become zeros: no header has the kind 0.
-fn clear(out: &mut [usize])
+pub fn clear(out: &mut [usize])
     ensures { λ _. ⌜ now (out .exit) ≡ zeros (length (now (out .entry))) ⌝ }
 {
     let mut i: usize = 0;
