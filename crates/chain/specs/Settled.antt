@@ -57,7 +57,8 @@ use Rattle.tcp_options.specs.Options.{options, optionOf}
 use Rattle.tcp_options.specs.Paper.{optionOnPaper}
 use Rattle.tcp_options.specs.Settled.{settled}
 use Rattle.chain.specs.Answers.{Sliced, HeaderIs, CountIs, ListIs}
-use Rattle.chain.specs.Back.{settled-by, stop-back, refusal-back, link-back, ip-back, ext-back, transport-back}
+use Rattle.laws.specs.Back.{settled-by, stop-back}
+use Rattle.chain.specs.Back.{refusal-back, link-back, ip-back, ext-back, transport-back}
 use Rattle.chain.specs.Back.{link-at-back, ip-at-back, ext-at-back, transport-at-back, link-turn-back, transport-turn-back}
 use Rattle.chain.specs.Back.{packet-back, header-back, count-back, step-back}
 
