@@ -24,9 +24,11 @@ mul-result : tie.Need-mul-result
 mul-result c = search needs
 
 returns-2 : tie.Need-returns-2
-returns-2 c =
-    (let b4 = c .before .before .before .before in
-    omega (arith, joined 2 2 (byteAt (b4 .args .s .now)) (b4 .args .at), past 2 (b4 .args .s .now) (b4 .args .at + 2) (omega arith)), refl)
+returns-2 c = (
+  let b4 = c .before .before .before .before in
+      omega (arith, joined 2 2 (byteAt (b4 .args .s .now)) (b4 .args .at), past 2 (b4 .args .s .now) (b4 .args .at + 2) (omega arith)),
+  refl,
+)
 
 add-be16 : tie.Need-add-be16
 add-be16 c = search needs
@@ -44,14 +46,16 @@ add-result : tie.Need-add-result
 add-result c = search needs
 
 returns-3 : tie.Need-returns-3
-returns-3 c =
-    (let b5 = c .before .before .before .before .before in
-    let i = b5 .args .at in let e : i + 1 + 1 ≡ i + 2 = omega arith in omega (
-      arith,
-      joined 2 2 (byteAt (b5 .args .s .now)) i,
-      rw e at
-          (c .be162 .ensures .0),
-    ), refl)
+returns-3 c = (
+  let b5 = c .before .before .before .before .before in
+      let i = b5 .args .at in let e : i + 1 + 1 ≡ i + 2 = omega arith in omega (
+        arith,
+        joined 2 2 (byteAt (b5 .args .s .now)) i,
+        rw e at
+            (c .be162 .ensures .0),
+      ),
+  refl,
+)
 
 pub be32-spec : {M : Type 1} → statement M
 be32-spec =

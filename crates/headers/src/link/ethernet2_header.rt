@@ -5,9 +5,9 @@ ghost use Rattle.headers.specs.Says.{linkOnPaper, linkSays};
 ghost use Rattle.rules.specs.declared.kind.Kind.the-variants as K;
 use crate::link::LinkRead;
 use crate::too_short;
+use big_endian::be16;
 use rules::EtherType;
 use rules::Kind;
-use big_endian::be16;
 use rules::field;
 use rules::length;
 

@@ -6,14 +6,14 @@ ghost use Rattle.rules.specs.declared.kind.Kind.the-variants as K;
 use crate::net::IpHeader;
 use crate::net::IpRead;
 use crate::too_short;
+use big_endian::be16;
+use big_endian::byte;
 use rules::Bound;
 use rules::Fault;
 use rules::Fragment;
 use rules::IpNumber;
 use rules::Kind;
 use rules::Layer;
-use big_endian::be16;
-use big_endian::byte;
 use rules::field;
 use rules::length;
 

@@ -6,11 +6,11 @@ ghost use Rattle.rules.specs.declared.kind.Kind.the-variants as K;
 use crate::net::ExtHeader;
 use crate::net::ExtRead;
 use crate::too_short;
+use big_endian::be16;
+use big_endian::byte;
 use rules::Fragment;
 use rules::IpNumber;
 use rules::Kind;
-use big_endian::be16;
-use big_endian::byte;
 use rules::field;
 use rules::length;
 

@@ -6,10 +6,10 @@ ghost use Rattle.headers.specs.Says.{extOnPaper, rawSays};
 use crate::net::ExtHeader;
 use crate::net::ExtRead;
 use crate::too_short;
+use big_endian::byte;
 use rules::Fragment;
 use rules::IpNumber;
 use rules::Kind;
-use big_endian::byte;
 use rules::field;
 use rules::length;
 

@@ -5,9 +5,9 @@ ghost use Rattle.headers.specs.Says.{transportOnPaper, tcpSays};
 use crate::too_short;
 use crate::transport::TransportHeader;
 use crate::transport::TransportRead;
+use big_endian::byte;
 use rules::Fault;
 use rules::Kind;
-use big_endian::byte;
 use rules::field;
 use rules::length;
 

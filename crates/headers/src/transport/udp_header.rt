@@ -5,11 +5,11 @@ ghost use Rattle.headers.specs.Says.{transportOnPaper, udpSays};
 use crate::too_short;
 use crate::transport::TransportHeader;
 use crate::transport::TransportRead;
+use big_endian::be16;
 use rules::Bound;
 use rules::Fault;
 use rules::Kind;
 use rules::Layer;
-use big_endian::be16;
 use rules::field;
 use rules::length;
 

@@ -37,9 +37,14 @@ returns c =
     let b13 = b9 .before .before .before .before in
     let k = b13 .args .k in
     let t = slices (b13 .args .entry) (b13 .args .s .now) in
-    let e = sym (ap countOnPaper (c .before .counted .given .1)) ∙ b5 .walk .ensures .0 in
-    (e, (list-accepted k t (length (b13 .args .out .now)) e
-    (b5 .walk .ensures .1 ∙ ap (λ (o : List ℕ). writtenFrom k (headersRead t) o) (b9 .clear .ensures)), refl))
+    let e = sym (ap countOnPaper (c .before .counted .given .1)) ∙ b5 .walk .ensures .0 in (
+      e,
+      (
+        list-accepted k t (length (b13 .args .out .now)) e
+            (b5 .walk .ensures .1 ∙ ap (λ (o : List ℕ). writtenFrom k (headersRead t) o) (b9 .clear .ensures)),
+        refl,
+      ),
+    )
 
 same-length-2 : tie.Need-same-length-2
 same-length-2 c = search needs

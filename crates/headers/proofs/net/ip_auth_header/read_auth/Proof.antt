@@ -36,20 +36,24 @@ too-short-requires-2 c κs = search needs
 
 returns-3 : tie.Need-returns-3
 unfolding says testsBy seenBy
-returns-3 c =
-    (let b3 = c .before .before .before in
-    let b4 = b3 .before in
-    λ v. simp (← b3 .byte .ensures .0) (judged (on (b4 .if1 .left) (on (omega arith) (off (beyond (c .before .if3 .taken)) (c .too-short2 .ensures))))), refl)
+returns-3 c = (
+  let b3 = c .before .before .before in
+      let b4 = b3 .before in
+      λ v. simp (← b3 .byte .ensures .0) (judged (on (b4 .if1 .left) (on (omega arith) (off (beyond (c .before .if3 .taken)) (c .too-short2 .ensures))))),
+  refl,
+)
 
 byte-requires-2 : tie.Need-byte-requires-2
 byte-requires-2 c κs = search needs
 
 returns-4 : tie.Need-returns-4
 unfolding says testsBy seenBy
-returns-4 c =
-    (let b3 = c .before .before .before in
-    let b4 = b3 .before in
-    λ v. simp (← b3 .byte .ensures .0, ← c .byte2 .ensures .0) (judged (on (b4 .if1 .left) (on (omega arith) (on (c .before .if3 .left) (done (refl)))))), refl)
+returns-4 c = (
+  let b3 = c .before .before .before in
+      let b4 = b3 .before in
+      λ v. simp (← b3 .byte .ensures .0, ← c .byte2 .ensures .0) (judged (on (b4 .if1 .left) (on (omega arith) (on (c .before .if3 .left) (done (refl)))))),
+  refl,
+)
 
 pub read-auth-spec : {M : Type 1} → statement M
 read-auth-spec =

@@ -33,11 +33,13 @@ too-short-requires-2 c κs = search needs
 
 returns-3 : tie.Need-returns-3
 unfolding says testsBy seenBy
-returns-3 c =
-    (let b2 = c .before .before in
-    let b3 = b2 .before in
-    let b4 = b3 .before in
-    λ v. simp (← b3 .byte .ensures .0) (judged (on (b4 .if1 .left) (on (b2 .if2 .left) (off (beyond (c .before .if3 .taken)) (c .too-short2 .ensures))))), refl)
+returns-3 c = (
+  let b2 = c .before .before in
+      let b3 = b2 .before in
+      let b4 = b3 .before in
+      λ v. simp (← b3 .byte .ensures .0) (judged (on (b4 .if1 .left) (on (b2 .if2 .left) (off (beyond (c .before .if3 .taken)) (c .too-short2 .ensures))))),
+  refl,
+)
 
 returns-4 : tie.Need-returns-4
 unfolding says testsBy seenBy
