@@ -34,6 +34,7 @@ use Rattle.laws.specs.Openings.{Asks, opening-asks}
 use Rattle.laws.specs.Reads.{parts}
 use Rattle.steps.specs.declared.place.Step.the-variants as N
 use Rattle.steps.specs.Places.{Stepped, refused, not-a-place, leads, steps, stepSays}
+use Rattle.chain.specs.Chain.{pastAt, roomAt}
 use Rattle.chain.specs.Broken.{FirstFailed, this, later, Broken, fails, late-hop, more, BrokenFrom, opened, unopened, BrokenOf}
 use Rattle.chain.specs.Walked.{judged-first}
 use Rattle.chain.specs.Refused.{RefusedForAReason}
@@ -146,16 +147,16 @@ steps-ask s p {r} e = go (read s p) refl e
     un : {a b : Row} → refused a ≡ refused b → a ≡ b
     un e = cc
 
-    leads-ask : (len : ℕ) (f : Follow) → ({q : Row} → f ≡ wrong q → Asks q) → leads len f ≡ refused r → Asks r
+    leads-ask : (len : ℕ) (f : Follow) → ((q : Row) → f ≡ wrong q → Asks q) → leads len f ≡ refused r → Asks r
     leads-ask len (next q) h e = let z : _≡_ {A = ℕ} 0 1 = cc in absurd (omega arith)
     leads-ask len (halt x) h e = let z : _≡_ {A = ℕ} 0 1 = cc in absurd (omega arith)
-    leads-ask len (wrong q) h e = subst Asks (un e) (h refl)
+    leads-ask len (wrong q) h e = subst Asks (un e) (h q refl)
 
     go : (d : PlaceRead) → read s p ≡ d → steps d ≡ refused r → Asks r
     go (refuses q) w e = subst Asks (un e) (read-asks s p w)
     go (reads x) w e =
         leads-ask (x .len) (x .follow)
-        (λ {q} o. follow-asks _ _ _ _ _ (ap (λ (y : Found). y .follow) (sym (parts s p w .found)) ∙ o)) e
+        (λ q o. follow-asks _ _ _ _ _ (ap (λ (y : Found). y .follow) (sym (parts s p w .found)) ∙ o)) e
 
 pick-refused : (b : Bool) {u : Stepped} {r : Row} → pick b u not-a-place ≡ refused r → u ≡ refused r
 pick-refused true e = e
@@ -177,7 +178,7 @@ pub row-asks-for-more : {s : List ℕ} {p : Place} {hs : List HeaderAt} {r : Row
 row-asks-for-more {s} (fails {p} {f} b) =
     let a = fair (p .kind) (p .room .version) (bytes s p) (p .room .end - p .at) in
     asks f (p .at) (p .room .source) (sound a b)
-row-asks-for-more (late-hop {p} h e) = late-asks _ _
+row-asks-for-more {s} (late-hop {p} h e) = late-asks (pastAt s p) (roomAt s p .source)
 row-asks-for-more (more h l b) = row-asks-for-more b
 
 -- of a frame, by its entry

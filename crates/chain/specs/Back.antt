@@ -52,7 +52,7 @@ use Rattle.steps.specs.declared.place.Step.{Step}
 use Rattle.steps.specs.declared.place.Step.the-variants as N
 use Rattle.slicer.specs.Reply.{Ended, accepted, refused, outcomeOnPaper, packetOnPaper}
 use Rattle.steps.specs.Lists.{headerOnPaper, countOnPaper}
-use Rattle.steps.specs.Places.{Stepped, stepOnPaper}
+use Rattle.steps.specs.Places.{Stepped, stepOnPaper, place-back}
 use Rattle.steps.specs.Places as P
 
 -- ---- refusals
@@ -222,14 +222,14 @@ unfolding countAnswer
 count-back = record { back = countAnswer; same = elim [ C.Is n ↦ refl | C.Refused q ↦ ap C.Refused (refusal-same q) ] }
 
 stepOf : Stepped → Step
-stepOf (P.on len p) = N.Next len p
+stepOf (P.on len p) = N.Next len (place-back .back p)
 stepOf (P.last len x) = N.Last len (ending-back .back x)
 stepOf (P.refused r) = N.Refused (refusalOf r)
 stepOf P.not-a-place = N.NotAPlace
 
 step-same : (a : Step) → stepOf (stepOnPaper a) ≡ a
 unfolding stepOf
-step-same (N.Next len p) = refl
+step-same (N.Next len p) = ap (N.Next len) (place-back .same p)
 step-same (N.Last len e) = ap (N.Last len) (ending-back .same e)
 step-same (N.Refused q) = ap N.Refused (refusal-same q)
 step-same N.NotAPlace = refl
