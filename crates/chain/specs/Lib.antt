@@ -20,5 +20,6 @@ pub mod Padding
 pub mod Twins
 pub mod DeclaredLength
 pub mod Exported
+pub mod TcpOptions
 pub mod Frames
 pub mod Idle
