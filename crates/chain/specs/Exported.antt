@@ -1,6 +1,6 @@
 -- Demand 3 for the exports, by an entry's number: what a C or Rust program is handed is accepted, in order, counted and refused as the
 -- chain is; and a short-length refusal asks for more. That bytes past a declared length alter nothing: Alike.antt.
-use Prim.Native.Nat.{ℕ, _≤_}
+use Prim.Native.Nat.{ℕ, _+_, _≤_, _<_}
 use mathlib.Core.Path.{_≡_, refl, sym, ap, _∙_, subst}
 use mathlib.Core.List.{List, map}
 use native.Mathlib.Omega.{arith}
@@ -14,11 +14,18 @@ use Rattle.laws.specs.Gather.{gathered, listed}
 use Rattle.laws.specs.Openings.{Asks}
 use Rattle.laws.specs.Walks.{nth-past}
 use Rattle.slicer.specs.Reply.{Reply, nothing, sliceWay, acceptedBy, replyOf, noHeader}
+use Rattle.exports.specs.declared.Chosen.{Chosen}
 use Rattle.exports.specs.declared.Chosen.the-variants as C
 use Rattle.exports.specs.declared.handed.Packet.{Packet}
 use Rattle.exports.specs.declared.handed.HeaderReply.{HeaderReply}
 use Rattle.exports.specs.declared.handed.CountReply.{CountReply}
+use Rattle.exports.specs.declared.handed.OptionReply.{OptionReply}
+use Rattle.exports.specs.Handed.{optionBy}
 use Rattle.exports.specs.Handed.{there, noMore, isRefused, noRow, unread, noParts, packetBy, sliceFor, headerReply, headerBy, headerFor, countReply, countBy, countFor, listFor}
+use Rattle.tcp_options.specs.declared.answer.OptionRow.{OptionRow}
+use Rattle.tcp_options.specs.Options as O
+use Rattle.tcp_options.specs.Order.{listed-inside}
+use Rattle.tcp_options.specs.Places.{refused-inside, refused-later, no-more-later}
 use Rattle.chain.specs.Chain.{At}
 use Rattle.chain.specs.Walked.{Walked, whole-walk, broken-walk, walked}
 use Rattle.chain.specs.Accepted.{HasChain}
@@ -184,5 +191,52 @@ module _ (entry : Entry) (s : List ℕ) (r : CountReply) (e : r ≡ countFor (C.
         asks-for-more = λ o. breaks-ask entry s (r .refusal) (count-broken o);
       }
 
-pub heads-in-order : (entry : Entry) (s : List ℕ) (k n : ℕ) (after : List ℕ) → after ≡ listFor (C.Is entry) s k n → ListInOrder entry s k n after
-heads-in-order entry s k n after e = list-in-order entry s k n after e
+-- ---- by the entry's number, as the exports are asked
+
+module _ (c : Chosen) (s : List ℕ) where
+  pub packet-by : (r : Packet) → r ≡ sliceFor c s → (e : Entry) → c ≡ C.Is e → PacketTells e s r
+  packet-by r h e q = packet-tells e s r (h ∙ ap (λ (x : Chosen). sliceFor x s) q)
+
+  pub header-by : (k : ℕ) (r : HeaderReply) → r ≡ headerFor c s k → (e : Entry) → c ≡ C.Is e → HeaderTells e s k r
+  header-by k r h e q = header-tells e s k r (h ∙ ap (λ (x : Chosen). headerFor x s k) q)
+
+  pub count-by : (r : CountReply) → r ≡ countFor c s → (e : Entry) → c ≡ C.Is e → CountTells e s r
+  count-by r h e q = count-tells e s r (h ∙ ap (λ (x : Chosen). countFor x s) q)
+
+  pub list-by : (k n : ℕ) (after : List ℕ) → after ≡ listFor c s k n → (e : Entry) → c ≡ C.Is e → ListInOrder e s k n after
+  list-by k n after h e q = list-in-order e s k n after (h ∙ ap (λ (x : Chosen). listFor x s k n) q)
+
+-- ---- bhirkulom_option, for the bytes s and the place k: a listed option lies inside; a refusal's offset is inside, and stays at every later place
+
+pub record OptionReplyTells (s : List ℕ) (k : ℕ) (r : OptionReply) : Type 0 where
+  pub listed : r .status ≡ there → r .at + r .len ≤ length s
+  pub refused : r .status ≡ isRefused → (r .refusal .offset < length s) × ((m : ℕ) → k ≤ m → O.optionOf (O.options s) m ≡ O.refusal (r .refusal))
+  pub no-more : r .status ≡ noMore → (m : ℕ) → k ≤ m → O.optionOf (O.options s) m ≡ O.no-more
+
+pub option-reply-tells : (s : List ℕ) (k : ℕ) (r : OptionReply) → r ≡ optionBy (O.optionOf (O.options s) k) → OptionReplyTells s k r
+option-reply-tells s k r e = go (O.optionOf (O.options s) k) refl
+  where
+    go : (a : O.Answer) → O.optionOf (O.options s) k ≡ a → OptionReplyTells s k r
+    go (O.is o) w =
+        let z = e ∙ ap optionBy w in
+        let y = listed-inside s k o w in
+        record {
+          listed = λ q. omega (arith, y, ap (λ (x : OptionReply). x .at) z, ap (λ (x : OptionReply). x .len) z);
+          refused = λ q. clash (sym q ∙ ap (λ (x : OptionReply). x .status) z) (λ n. omega arith);
+          no-more = λ q. clash (sym q ∙ ap (λ (x : OptionReply). x .status) z) (λ n. omega arith);
+        }
+    go O.no-more w =
+        let z = e ∙ ap optionBy w in
+        record {
+          listed = λ q. clash (sym q ∙ ap (λ (x : OptionReply). x .status) z) (λ n. omega arith);
+          refused = λ q. clash (sym q ∙ ap (λ (x : OptionReply). x .status) z) (λ n. omega arith);
+          no-more = λ q. no-more-later s k w;
+        }
+    go (O.refusal q) w =
+        let z = e ∙ ap optionBy w in
+        let y = ap (λ (x : OptionReply). x .refusal) z in
+        record {
+          listed = λ p. clash (sym p ∙ ap (λ (x : OptionReply). x .status) z) (λ n. omega arith);
+          refused = λ p. (omega (arith, refused-inside s k q w, ap (λ (x : OptionRow). x .offset) y), λ m h. refused-later s k q w m h ∙ ap O.refusal (sym y));
+          no-more = λ p. clash (sym p ∙ ap (λ (x : OptionReply). x .status) z) (λ n. omega arith);
+        }

@@ -1,11 +1,11 @@
--- The TCP options of a frame: of an accepted frame with a TCP header, `slice` and then `tcp_options` give the range from byte 20 of that header to
--- its end, and never nothing. Bytes past the declared length don't move it: alike frames have one reply (Alike.antt), so `same-options`.
-use Prim.Native.Nat.{ℕ, suc, _+_, _-_, _≤_}
+-- The TCP options of a frame: where its chain has a TCP header, `slice` and then `tcp_options` give the range from byte 20 of that header to its
+-- end, and never nothing. Bytes past the declared length don't move it: alike frames have one reply (Alike.antt), so `same-options`.
+use Prim.Native.Nat.{ℕ, suc, _+_, _-_, _≤_, _<_}
 use mathlib.Core.Path.{_≡_, refl, sym, ap, _∙_, subst}
 use mathlib.Core.Bool.{Bool, true, false}
 use mathlib.Core.List.{List, [], _∷_}
 use native.Mathlib.Omega.{arith}
-use lib.ListN.{length}
+use lib.ListN.{length, drop}
 use lib.Dec.{eqb}
 use borrow.Author.Tests.{eqb-true}
 use Rattle.rules.specs.declared.entry.Entry.{Entry}
@@ -13,9 +13,11 @@ use Rattle.rules.specs.declared.kind.Kind.{Kind}
 use Rattle.rules.specs.declared.kind.Kind.the-variants.{Ethernet2, Vlan, Ipv4, Ipv6, HopByHop, Routing, Destination, Fragment, Auth, Udp, Tcp}
 use Rattle.rules.specs.declared.place.Header.{Header}
 use Rattle.rules.specs.declared.place.Place.{Place}
+use Rattle.rules.specs.declared.place.Room.{Room}
+use Rattle.rules.specs.declared.turn.Turn.the-variants as U
 use Rattle.rules.specs.Numbers.{tcpLength}
 use Rattle.rules.specs.Named.{kindNumber}
-use Rattle.rules.specs.Rules.{leastLength}
+use Rattle.rules.specs.Rules.{leastLength, turnOf}
 use Rattle.rules.specs.Place.{Follow, Stopped, bytes}
 use Rattle.rules.specs.Walk.{Trace, HeaderAt, header}
 use Rattle.laws.specs.Back.{settled-by, kind-back}
@@ -26,10 +28,17 @@ use Rattle.slicer.specs.declared.packet.NetPart.{NetPart}
 use Rattle.slicer.specs.declared.packet.NetPart.the-variants as N
 use Rattle.slicer.specs.declared.packet.TransportPart.{TransportPart}
 use Rattle.slicer.specs.declared.packet.TransportPart.the-variants as T
+use Rattle.slicer.specs.declared.options.OptionsPart.{OptionsPart}
 use Rattle.slicer.specs.declared.options.OptionsPart.the-variants as P
 use Rattle.slicer.specs.Reply.{Reply, Parts, nothing, sliceWay, put, extended, range}
 use Rattle.slicer.specs.Options.{optionsOf, there}
-use Rattle.chain.specs.Chain.{Chain, last, more, ChainFrom, opened, ChainOf, At, here, later}
+use Rattle.tcp_options.specs.declared.answer.OptionAnswer.{OptionAnswer}
+use Rattle.tcp_options.specs.declared.answer.OptionRow.{OptionRow}
+use Rattle.tcp_options.specs.Options as O
+use Rattle.tcp_options.specs.Paper.{optionOnPaper}
+use Rattle.tcp_options.specs.Order.{listed-is-there, listed-inside}
+use Rattle.tcp_options.specs.Places.{refused-inside, refused-later, no-more-later}
+use Rattle.chain.specs.Chain.{roomAt, listedAt, Chain, last, more, ChainFrom, opened, ChainOf, At, here, later}
 use Rattle.chain.specs.Inside.{header-inside}
 use Rattle.chain.specs.Walked.{Walked, whole-walk, broken-walk, walked}
 use Rattle.chain.specs.Accepted.{chain→reply}
@@ -153,3 +162,54 @@ same-options entry s t a x y e f = go (x .transport) refl
             let k = eqb-true (h .kind) (kindNumber Tcp) q in
             options-there entry s x e h w k ∙ sym (options-there entry t y f h (too ∙ w) k)
         by false q = rw (too, w) (other (length s) h q ∙ sym (other (length t) h q))
+
+-- ---- by the chain: its TCP header is its last, so it is the reply's
+
+-- a TCP header ends the chain
+tcp-ends : (k : Kind) (g : ℕ → ℕ) (p : Room) {j : Kind} → k ≡ Tcp → turnOf k g p ≡ U.Opens j → ⊥
+unfolding turnOf
+tcp-ends k g p {j} e q = go (subst (λ (i : Kind). turnOf i g p ≡ U.Opens j) e q)
+  where
+    go : turnOf Tcp g p ≡ U.Opens j → ⊥
+    go q = let z : _≡_ {A = ℕ} 0 1 = cc in omega arith
+
+put-tcp : (k : Kind) (f : Parts) (e : HeaderAt) → k ≡ Tcp → put k f e .transport ≡ T.Is (header e)
+put-tcp k f e q = subst (λ (j : Kind). put j f e .transport ≡ T.Is (header e)) (sym q) refl
+
+tcp-carried : {s : List ℕ} {p : Place} {hs : List HeaderAt} {x : Stopped} {k : ℕ} {e : HeaderAt} (f : Parts) → Chain s p hs x → At hs k e → e .kind ≡ Tcp
+    → Carries (listed sliceWay f hs .transport) (header e)
+unfolding listed
+tcp-carried {s} f (last {p} h c) here q = put-tcp (p .kind) f (listedAt s p) q
+tcp-carried f (last h c) (later a) q = elim a [ ]
+tcp-carried {s} f (more {p} h l c) here q = absurd (tcp-ends (p .kind) (bytes s p) (roomAt s p) q (l .names))
+tcp-carried {s} f (more {p} h l c) (later a) q = tcp-carried (put (p .kind) f (listedAt s p)) c a q
+
+-- what is said of the options r that are told of a frame: where the chain has a TCP header, they are what follows its byte 20
+abbrev pub OptionsOfChain : Entry → List ℕ → OptionsPart → Type 0
+OptionsOfChain entry s r = (hs : List HeaderAt) (x : Stopped) (k : ℕ) (e : HeaderAt) → ChainOf entry s hs x → At hs k e → e .kind ≡ Tcp
+    → r ≡ P.At (range (e .at + tcpLength) (e .len - tcpLength))
+
+pub options-of-chain : (entry : Entry) (s : List ℕ) (a : SlicedPacket) (r : OptionsPart) → Sliced entry s a → r ≡ optionsOf (length s) (a .transport)
+    → OptionsOfChain entry s r
+options-of-chain entry s a r e o hs x k g c n q =
+    o ∙ options-there entry s a e (header g) (ap (λ (p : Reply). p .transport) (chain→reply entry s a e c) ∙ go c n) (ap kindNumber q)
+  where
+    go : {f : Follow} → ChainFrom s f hs x → At hs k g → Carries (listed sliceWay nothing hs .transport) (header g)
+    go (opened c) n = tcp-carried nothing c n q
+
+-- ---- each answer of `option`, for the bytes s and the place k (crate tcp_options has the theorems)
+
+pub record OptionTells (s : List ℕ) (k : ℕ) (r : OptionAnswer) : Type 0 where
+  -- a listed option is what the bytes at its offset are read as, and lies inside
+  pub listed : (o : O.Listed) → optionOnPaper r ≡ O.is o → (O.read (drop (o .at) s) ≡ O.lists (o .kind) (o .size)) × (o .at + o .size ≤ length s)
+  -- at the place of a refused option and every later one the answer is that refusal, whose offset is inside
+  pub refused : (q : OptionRow) → optionOnPaper r ≡ O.refusal q → (q .offset < length s) × ((m : ℕ) → k ≤ m → O.optionOf (O.options s) m ≡ O.refusal q)
+  pub no-more : optionOnPaper r ≡ O.no-more → (m : ℕ) → k ≤ m → O.optionOf (O.options s) m ≡ O.no-more
+
+pub option-tells : (s : List ℕ) (k : ℕ) (r : OptionAnswer) → optionOnPaper r ≡ O.optionOf (O.options s) k → OptionTells s k r
+option-tells s k r e =
+    record {
+      listed = λ o q. (listed-is-there s k o (sym e ∙ q), listed-inside s k o (sym e ∙ q) .1);
+      refused = λ q o. (refused-inside s k q (sym e ∙ o), refused-later s k q (sym e ∙ o));
+      no-more = λ q. no-more-later s k (sym e ∙ q);
+    }
