@@ -131,7 +131,7 @@ module _ (entry : Entry) (s t : List ℕ) (a : Alike entry s t) where
   pub alike-text : textOf entry s ≡ textOf entry t
   alike-text = alike-by text text-blank entry s t a
 
--- ---- and so are the public answers: what slice, header, count and headers answer, and what headers leaves in n lent numbers
+  -- ---- and so are the public answers: what slice, header, count and headers answer, and what headers leaves in n lent numbers
 
   pub same-reply : (x y : SlicedPacket) → Sliced entry s x → Sliced entry t y → x ≡ y
   same-reply x y e f = settled-by packet-back e (f ∙ sym alike-reply)

@@ -31,25 +31,25 @@ use Rattle.chain.specs.Answers.{Sliced}
 unfoldable pub zeros : ℕ → List ℕ
 zeros n = replicate n 0
 
-two : ℕ → List ℕ
+unfoldable pub two : ℕ → List ℕ
 two n = n / 256 ∷ n % 256 ∷ []
 
-ethernet : (type : ℕ) → List ℕ
+unfoldable pub ethernet : (type : ℕ) → List ℕ
 ethernet type = zeros 12 ++ two type
 
-tag : (type : ℕ) → List ℕ
+unfoldable pub tag : (type : ℕ) → List ℕ
 tag type = zeros 2 ++ two type
 
-ipv4 : (first total protocol : ℕ) → List ℕ
+unfoldable pub ipv4 : (first total protocol : ℕ) → List ℕ
 ipv4 first total protocol = first ∷ 0 ∷ two total ++ zeros 5 ++ (protocol ∷ zeros 10)
 
-ipv6 : (payload next : ℕ) → List ℕ
+unfoldable pub ipv6 : (payload next : ℕ) → List ℕ
 ipv6 payload next = 0x60 ∷ zeros 3 ++ two payload ++ (next ∷ zeros 33)
 
-udp : (len : ℕ) → List ℕ
+unfoldable pub udp : (len : ℕ) → List ℕ
 udp len = zeros 4 ++ two len ++ zeros 2
 
-tcp : (offset : ℕ) → List ℕ
+unfoldable pub tcp : (offset : ℕ) → List ℕ
 tcp offset = zeros 12 ++ (offset * 16 ∷ zeros 7)
 
 -- ---- questions and answers

@@ -13,6 +13,7 @@ pub mod AsksForMore
 pub mod Inside
 pub mod Back
 pub mod Settled
+pub mod SettledValues
 pub mod Alike
 pub mod Agree
 pub mod Deciding
@@ -20,6 +21,8 @@ pub mod Padding
 pub mod Twins
 pub mod DeclaredLength
 pub mod Exported
+pub mod Printed
 pub mod TcpOptions
 pub mod Frames
 pub mod Idle
+pub mod Witness

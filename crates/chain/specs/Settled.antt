@@ -1,6 +1,6 @@
 -- "Each public answer is settled by its input alone, refusals with all that they carry included. Prove that no second answer
 -- satisfies the same contract": a statement for each public function. Of two answers x and y that both satisfy its `ensures`, x ≡ y.
--- The public functions of these crates that are not named here say what they return by `r ≡ ..`. One exception: header_at, below.
+-- The functions whose contract says `r ≡ value` have theirs in SettledValues.antt. One exception: header_at, below.
 use Prim.Native.Nat.{ℕ, _+_, _-_}
 use mathlib.Core.Path.{_≡_, refl, sym, ap, _∙_}
 use mathlib.Core.Bool.{Bool, false}
@@ -67,7 +67,7 @@ abbrev pub Settles : {A : Type 0} → (A → Type 0) → Type 0
 Settles {A} contract = (x y : A) → contract x → contract y → x ≡ y
 
 -- an answer that is said to equal a value is settled
-same-value : {A : Type 0} {x y z : A} → x ≡ z → y ≡ z → x ≡ y
+pub same-value : {A : Type 0} {x y z : A} → x ≡ z → y ≡ z → x ≡ y
 same-value e f = e ∙ sym f
 
 -- ---- crate rules: Fault::at

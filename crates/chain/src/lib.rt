@@ -19,6 +19,7 @@ pub mod exported;
 pub mod lists;
 pub mod options;
 pub mod sums;
+pub mod texts;
 
 // How the walk of a frame ends: accepted exactly when there is a chain; refused exactly where the walk breaks.
 pub fn outcome(s: &[u8], entry: Entry) -> Outcome
