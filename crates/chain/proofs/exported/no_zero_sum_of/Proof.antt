@@ -20,7 +20,8 @@ returns c =
     let b2 = b1 .before in
     let one : Sum16BitWords = record { sum = b2 .bhirkulom-sum-add .result } in
     let both : Sum16BitWords = record { sum = b1 .bhirkulom-sum-add2 .result } in
-    no-zero-told _ both _ (with-slice _ {r = both} (with-slice _ {r = one} none-summed (b2 .bhirkulom-sum-add .ensures .0)) (b1 .bhirkulom-sum-add2 .ensures .0)) (c .bhirkulom-sum-answer-no-zero .ensures)
+    let summed = with-slice _ {r = both} (with-slice _ {r = one} none-summed (b2 .bhirkulom-sum-add .ensures .0)) (b1 .bhirkulom-sum-add2 .ensures .0) in
+    no-zero-told _ both _ summed (c .bhirkulom-sum-answer-no-zero .ensures)
 
 pub no-zero-sum-of-spec : {M : Type 1} → statement M
 no-zero-sum-of-spec =
