@@ -8,6 +8,7 @@ ghost use Rattle.rules.specs.declared.entry.Entry.the-variants.{Ethernet};
 ghost use Rattle.printing.specs.Text.{textOf};
 ghost use Rattle.printing.specs.Values.{frameLimit};
 ghost use Rattle.printing.specs.Fits.{textLimit};
+use printing::Printed;
 use rules::Entry;
 
 // One byte more than a frame may have, so that a longer input shows.
@@ -34,7 +35,12 @@ fn printed(frame: &[u8], out: &mut [u8; TEXT]) -> usize
     ensures counted { λ r. ⌜ r ≡ length (textOf Ethernet (now (frame .entry))) ⌝ }
     ensures whole { λ r. ⌜ take r (now (out .exit)) ≡ textOf Ethernet (now (frame .entry)) ⌝ }
 {
-    printing::print(frame, Entry::Ethernet, out)
+    let answer = printing::print(frame, Entry::Ethernet, out);
+    match answer {
+        Printed::Whole(len) => len,
+        // The text of no frame is cut.
+        Printed::Cut => 0,
+    }
 }
 
 fn main() {
