@@ -87,6 +87,7 @@ module _ (t : List ℕ) (n : ℕ) {b o : List ℕ} {r : ℕ} (z : b ≡ zeros n)
   ended = (wrote-length w ∙ zeroed, omega (arith, w .reached, zeroed))
 
   pub printed-whole : r ≤ length o → (o ≡ printedIn t n) × (Whole r ≡ printedBy t n)
+  unfolding printedIn printedBy
   printed-whole h =
       let e = ended in
       let f : length t ≤ n = omega (arith, e .0, e .1) in
@@ -94,4 +95,5 @@ module _ (t : List ℕ) (n : ℕ) {b o : List ℕ} {r : ℕ} (z : b ≡ zeros n)
       rw (le-leb (length t) n f) (w .stored ∙ ap (λ (l : List ℕ). sets l 0 t) z ∙ sets-zeros t n f, ap Whole same)
 
   pub printed-cut : {o′ : List ℕ} → length o < r → o′ ≡ zeros (length o) → (o′ ≡ printedIn t n) × (Cut ≡ printedBy t n)
+  unfolding printedIn printedBy
   printed-cut h c = let e = ended in rw (lt-leb (length t) n (omega (arith, e .0, e .1))) (c ∙ ap zeros (e .0), refl)

@@ -1,11 +1,9 @@
 -- The text of every frame of at most `frameLimit` bytes fits a buffer of `textLimit` bytes.
 use Prim.Native.Nat.{ℕ, zero, suc, _+_, _-_, _*_, _≤_}
-use mathlib.Core.Path.{_≡_, refl, ap, _∙_}
+use mathlib.Core.Path.{_≡_, refl, ap}
 use mathlib.Core.List.{List, _++_, append-assoc}
 use native.Mathlib.Omega.{arith}
-use lib.ListN.{length, take, length-append}
-use lib.Seq.{take-append-seam}
-use borrow.Author.Tests.{le-leb}
+use lib.ListN.{length, length-append}
 use Rattle.rules.specs.declared.entry.Entry.{Entry}
 use Rattle.rules.specs.declared.entry.Entry.the-variants as E
 use Rattle.rules.specs.declared.place.Place.{Place}
@@ -18,8 +16,9 @@ use Rattle.laws.specs.Openings.{opening-begins, never-halts}
 use Rattle.printing.specs.Clash.{clash}
 use Rattle.printing.specs.Text.{lineOf, headerLines, endingLines, text, textOf}
 use Rattle.printing.specs.declared.Printed.{Printed}
-use Rattle.printing.specs.declared.Printed.the-variants.{Whole}
-use Rattle.printing.specs.Put.{printedIn, printedBy}
+use Rattle.printing.specs.declared.Printed.the-variants.{Cut}
+use Rattle.printing.specs.Put.{printedBy}
+use Rattle.printing.specs.Told.{told-cut}
 use Rattle.printing.specs.Sizes.{SmallRow, ending-short, refused-short}
 use Rattle.printing.specs.Values.{frameLimit, Bytes, SmallFollow, refuses-small, SmallFound, reads-small}
 
@@ -87,11 +86,10 @@ text-fits e s b h = go (opening e s) refl
     go (halt x) q = absurd (never-halts e s q)
     go (wrong r) q = let z = refused-short (opening-small e s q) in omega (arith, z)
 
--- so what `print` promises of a buffer of that size, left as o with the answer r, is the whole text
-pub written-whole : (e : Entry) (s : List ℕ) {o : List ℕ} {r : Printed} → Bytes (byteAt s) → length s ≤ frameLimit
-    → o ≡ printedIn (textOf e s) textLimit → r ≡ printedBy (textOf e s) textLimit
-    → (r ≡ Whole (length (textOf e s))) × (take (length (textOf e s)) o ≡ textOf e s)
-written-whole e s b h p q =
-    let t = textOf e s in
-    let fits = le-leb (length t) textLimit (text-fits e s b h) in
-    (q ∙ rw fits refl, rw (p, fits) (take-append-seam t _))
+-- so `print` never tells that the text of such a frame is cut, where the buffer has n bytes
+pub never-cut : (e : Entry) (s : List ℕ) (n : ℕ) {r : Printed} → Bytes (byteAt s) → length s ≤ frameLimit → n ≡ textLimit
+    → r ≡ printedBy (textOf e s) n → r ≡ Cut → ⊥
+never-cut e s n b h l q i =
+    let z = told-cut (textOf e s) n q i in
+    let y = text-fits e s b h in
+    absurd (omega (arith, l, z, y))

@@ -11,11 +11,11 @@ use Rattle.printing.specs.declared.Printed.{Printed}
 use Rattle.printing.specs.declared.Printed.the-variants.{Whole, Cut}
 
 -- what a buffer of n bytes holds after the text t: the text and zeros behind it, and zeros alone where t does not fit
-abbrev pub printedIn : List ℕ → ℕ → List ℕ
+unfoldable pub printedIn : List ℕ → ℕ → List ℕ
 printedIn t n = pick (leb (length t) n) (t ++ zeros (n - length t)) (zeros n)
 
 -- and what is answered then
-abbrev pub printedBy : List ℕ → ℕ → Printed
+unfoldable pub printedBy : List ℕ → ℕ → Printed
 printedBy t n = pick (leb (length t) n) (Whole (length t)) Cut
 
 -- one piece of a text: with t stored from `at` on (a store past o's end does nothing), o is o′, and the next piece begins at r,

@@ -1,2 +1,2 @@
 -- What a comparison of texts says.
-pub mod Shown
+pub mod Agreed
