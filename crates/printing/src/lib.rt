@@ -79,8 +79,8 @@ fn lines(s: &[u8], entry: Entry, out: &mut [u8]) -> usize
     }
 }
 
-// The begin of a text reads as a whole text, and so do its lines before what an earlier call left. So `out` is cleared before
-// the text is written, and again where the text does not fit.
+// A cut text reads as a whole one, and so does a short text in front of the rest of an earlier, longer one. So `out` is cleared
+// before the text is written, and again where the text does not fit.
 pub fn print(s: &[u8], entry: Entry, out: &mut [u8]) -> Printed
     ensures text { λ r. ⌜ now (out .exit) ≡ printedIn (textOf entry (now (s .entry))) (length (now (out .entry))) ⌝ }
     ensures answer { λ r. ⌜ r ≡ printedBy (textOf entry (now (s .entry))) (length (now (out .entry))) ⌝ }
