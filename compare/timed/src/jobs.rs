@@ -11,7 +11,7 @@ pub const ROOM: usize = 3 * 8192;
 /// How many headers there is room for in what is lent, at least: as many as the wrapper lends room for.
 const FEW: usize = 16;
 
-/// Those that are lent for a frame. Each call writes all of them, zeros where it has no header, so more would be timed for their zeros.
+/// Those of them that are lent for a frame. Each call writes all of them, zeros where it has no header, so more would be timed for their zeros.
 pub fn lent<'a>(s: &[u8], heads: &'a mut [usize]) -> &'a mut [usize] {
     let count = boundary::headers(s, 1, 0, &mut []).count;
     &mut heads[..3 * count.max(FEW)]
