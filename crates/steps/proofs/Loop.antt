@@ -1,10 +1,10 @@
 -- The loop over the headers of a frame, and what it answers. Assumes nothing.
-use Prim.Native.Nat.{ℕ, _+_, _-_, _*_, _/_, _≤_, _<_}
+use Prim.Native.Nat.{ℕ, _+_, _-_, _*_, _/_, _≤_, _<_, min}
 use mathlib.Core.Path.{_≡_, refl, sym, ap, _∙_}
 use mathlib.Core.List.{List, [], _∷_, _++_, map, map-append, append-nil}
 use mathlib.Core.Bool.{Bool, true, false}
 use native.Mathlib.Omega.{arith}
-use lib.ListN.{length, getD, set, length-append, length-map}
+use lib.ListN.{length, getD, set, drop, length-append, length-map, length-drop}
 use lib.Seq.{append-snoc}
 use lib.Dec.{eqb}
 use Rattle.rules.specs.declared.entry.Entry.{Entry}
@@ -35,6 +35,7 @@ use Rattle.one_header.specs.declared.header.HeaderRead.the-variants as D
 use Rattle.one_header.specs.Header.{leftBy, foundOnPaper}
 use Rattle.laws.specs.Zeros.{zeros}
 use Rattle.steps.specs.Lists.{headersRead, headersListed, writtenFrom, listOf}
+use Rattle.steps.specs.Kept.{kept, written-kept}
 use Rattle.steps.specs.Places.{opens, opens-there}
 use Rattle.steps.proofs.Step.{ReadAs, reading, sizes}
 use Rattle.steps.proofs.Written.{written-length, written-none, written-more, written-full, written-early, one-written}
@@ -223,12 +224,17 @@ header-refused k unfinished e = cc
 
 -- ---- the list
 
--- of an accepted frame it is what was written
-pub list-accepted : (k : ℕ) (t : Trace HeaderAt) (m : ℕ) {o : List ℕ} {n : ℕ} → is n ≡ countOf t → o ≡ writtenFrom k (headersRead t) (zeros m) → o ≡ listOf t k m
-unfolding countOf headersRead headersListed listOf
-list-accepted k (accepted hs x) m e l = l
-list-accepted k (refused hs r) m e l = cc
-list-accepted k unfinished m e l = cc
+-- of an accepted frame it is what was written, and zeros behind that
+pub list-accepted : (k : ℕ) (t : Trace HeaderAt) (o : List ℕ) {n j : ℕ} → is n ≡ countOf t → j ≡ 3 * min (n - k) (length o / 3)
+    → kept j (writtenFrom k (headersRead t) o) ≡ listOf t k (length o)
+unfolding countOf headersRead headersListed listOf writtenFrom
+list-accepted k (accepted hs x) o {n} {j} e m =
+    let z : n ≡ length hs = cc in
+    let y = length-map hs header in
+    let d = length-drop k (map header hs) in
+    written-kept (drop k (map header hs)) o j (omega (arith, m, z, y, d))
+list-accepted k (refused hs r) o e m = cc
+list-accepted k unfinished o e m = cc
 
 -- of a refused one it is zeros
 pub list-refused : (k : ℕ) (t : Trace HeaderAt) (m : ℕ) {o : List ℕ} {r : Row} → refusal r ≡ countOf t → o ≡ zeros m → o ≡ listOf t k m

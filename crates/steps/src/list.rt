@@ -1,9 +1,11 @@
 // The headers of a frame as numbers, by number, and their count. All three are one walk, and it is finished before anything
 // is answered: a refused frame answers its refusal alone.
 ghost use mathlib.Core.Path.{_≡_};
+ghost use Prim.Native.Nat.{_-_, min};
 ghost use lib.ListN.{length};
 ghost use Rattle.rules.specs.Walk.{headerOf, countOf, slices};
 ghost use Rattle.laws.specs.Zeros.{zeros};
+ghost use Rattle.steps.specs.Kept.{kept};
 ghost use Rattle.steps.specs.Lists.{
   headerOnPaper,
   countOnPaper,
@@ -32,15 +34,36 @@ pub enum CountAnswer {
     Refused(Refusal),
 }
 
-// All the lent numbers become zeros: no header has the kind 0.
-pub fn clear(out: &mut [usize])
-    ensures { λ _. ⌜ now (out .exit) ≡ zeros (length (now (out .entry))) ⌝ }
+// The lent numbers from an index on become zeros: no header has the kind 0.
+fn clear_from(out: &mut [usize], from: usize)
+    ensures { λ _. ⌜ now (out .exit) ≡ kept from (now (out .entry)) ⌝ }
 {
-    let mut i: usize = 0;
+    let mut i = from;
     while i < out.len() {
         out[i] = 0;
         i += 1;
     }
+}
+
+// All the lent numbers become zeros.
+pub fn clear(out: &mut [usize])
+    ensures { λ _. ⌜ now (out .exit) ≡ zeros (length (now (out .entry))) ⌝ }
+{
+    clear_from(out, 0)
+}
+
+// How many headers from number k on are listed, where there is room for so many.
+fn listed(count: usize, k: usize, room: usize) -> usize
+    ensures { λ r. ⌜ r ≡ min (count - k) room ⌝ }
+{
+    if count < k {
+        return 0;
+    }
+    let behind = count - k;
+    if behind < room {
+        return behind;
+    }
+    room
 }
 
 // Counts the headers, and writes those from number k on as it comes to them. Whether the frame is refused shows behind the last one, so
@@ -102,12 +125,15 @@ pub fn headers(s: &[u8], entry: Entry, k: usize, out: &mut [usize]) -> CountAnsw
     ensures listed { λ r. ⌜ now (out .exit) ≡ listOf (slices entry (now (s .entry))) k (length (now (out .entry))) ⌝ }
     ensures unwritten { λ r. ⌜ now (s .exit) ≡ now (s .entry) ⌝ }
 {
-    clear(out);
+    let room = out.len() / HEADER_WORDS;
     let counted = walk(s, entry, k, out);
     match counted {
-        CountAnswer::Is(count) => CountAnswer::Is(count),
+        CountAnswer::Is(count) => {
+            clear_from(out, HEADER_WORDS * listed(count, k, room));
+            CountAnswer::Is(count)
+        }
         CountAnswer::Refused(refusal) => {
-            clear(out);
+            clear_from(out, 0);
             CountAnswer::Refused(refusal)
         }
     }
