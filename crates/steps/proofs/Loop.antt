@@ -200,9 +200,9 @@ module _ {s : List ℕ} {k : ℕ} {walk : Trace HeaderAt} {o : List ℕ} {kind :
 
 -- ---- header k
 
-pub header-here : (k : ℕ) (t : Trace HeaderAt) {o : List ℕ} {n : ℕ} → is n ≡ countOf t → o ≡ writtenFrom k (headersRead t) (0 ∷ 0 ∷ 0 ∷ []) → k < n
+pub header-here : (k : ℕ) (t : Trace HeaderAt) {o : List ℕ} {n : ℕ} → is n ≡ countOf t → o ≡ listOf t k 3 → k < n
     → is (record { kind = getD o 0 0; at = getD o 1 0; len = getD o 2 0 }) ≡ headerOf t k
-unfolding headerOf countOf headersRead
+unfolding headerOf countOf headersListed listOf
 header-here k (accepted hs x) {n = n} e l h =
     let z : n ≡ length hs = cc in
     let y = length-map hs header in

@@ -3,7 +3,7 @@ use Prim.Native.Nat.{ℕ, zero, suc, _+_, _*_, _/_, _≤_, _<_, min}
 use mathlib.Core.Path.{_≡_, refl, ap, _∙_}
 use mathlib.Core.List.{List, [], _∷_}
 use native.Mathlib.Omega.{arith}
-use lib.ListN.{length, set}
+use lib.ListN.{length, set, length-replicate}
 use Rattle.rules.specs.declared.place.Header.{Header}
 use Rattle.laws.specs.Zeros.{zeros, cleared, cleared-length, cleared-more, cleared-all}
 use Rattle.steps.specs.Lists.{written}
@@ -13,6 +13,11 @@ abbrev pub kept : ℕ → List ℕ → List ℕ
 kept zero o = zeros (length o)
 kept (suc i) [] = []
 kept (suc i) (x ∷ o) = x ∷ kept i o
+
+pub kept-length : (i : ℕ) (o : List ℕ) → length (kept i o) ≡ length o
+kept-length zero o = length-replicate (length o) 0
+kept-length (suc i) [] = refl
+kept-length (suc i) (x ∷ o) = ap suc (kept-length i o)
 
 -- ---- on the way: the first i stay, and n behind them are zeros
 

@@ -9,8 +9,6 @@ ghost use Rattle.steps.specs.Kept.{kept};
 ghost use Rattle.steps.specs.Lists.{
   headerOnPaper,
   countOnPaper,
-  headersRead,
-  writtenFrom,
   listOf,
 };
 use crate::place::first;
@@ -66,11 +64,13 @@ fn listed(count: usize, k: usize, room: usize) -> usize
     room
 }
 
-// Counts the headers, and writes those from number k on as it comes to them. Whether the frame is refused shows behind the last one, so
-// of a refused frame some are written.
-fn walk(s: &[u8], entry: Entry, k: usize, out: &mut [usize]) -> CountAnswer
+// The headers of a frame from number k on, three numbers each (kind, offset, length), as many as the lent numbers have room for, and
+// zeros behind them; the answer is how many headers the frame has. Of a refused frame there are zeros alone: headers are written as the walk
+// comes to them, and cleared where it is refused.
+pub fn headers(s: &[u8], entry: Entry, k: usize, out: &mut [usize]) -> CountAnswer
     ensures answer { λ r. ⌜ countOnPaper r ≡ countOf (slices entry (now (s .entry))) ⌝ }
-    ensures listed { λ r. ⌜ now (out .exit) ≡ writtenFrom k (headersRead (slices entry (now (s .entry)))) (now (out .entry)) ⌝ }
+    ensures listed { λ r. ⌜ now (out .exit) ≡ listOf (slices entry (now (s .entry))) k (length (now (out .entry))) ⌝ }
+    ensures unwritten { λ r. ⌜ now (s .exit) ≡ now (s .entry) ⌝ }
 {
     let begin = first(s, entry);
     let mut kind = begin.kind;
@@ -83,6 +83,7 @@ fn walk(s: &[u8], entry: Entry, k: usize, out: &mut [usize]) -> CountAnswer
         let read = header_at(&s[at..end], kind, at, room);
         match read {
             HeaderRead::Refused(refusal) => {
+                clear_from(out, 0);
                 return CountAnswer::Refused(refusal);
             }
             HeaderRead::Whole(x) => {
@@ -107,34 +108,15 @@ fn walk(s: &[u8], entry: Entry, k: usize, out: &mut [usize]) -> CountAnswer
                         at = past;
                     }
                     Turn::Stops(_) => {
+                        clear_from(out, HEADER_WORDS * listed(count, k, spare));
                         return CountAnswer::Is(count);
                     }
                     Turn::LateHopByHop => {
+                        clear_from(out, 0);
                         return CountAnswer::Refused(Refusal::HopByHopNotAtStart { offset: past });
                     }
                 }
             }
-        }
-    }
-}
-
-// The headers of a frame from number k on, three numbers each (kind, offset, length), as many as the lent numbers have room for, and
-// zeros behind them; the answer is how many headers the frame has. Of a refused frame there are zeros alone.
-pub fn headers(s: &[u8], entry: Entry, k: usize, out: &mut [usize]) -> CountAnswer
-    ensures answer { λ r. ⌜ countOnPaper r ≡ countOf (slices entry (now (s .entry))) ⌝ }
-    ensures listed { λ r. ⌜ now (out .exit) ≡ listOf (slices entry (now (s .entry))) k (length (now (out .entry))) ⌝ }
-    ensures unwritten { λ r. ⌜ now (s .exit) ≡ now (s .entry) ⌝ }
-{
-    let room = out.len() / HEADER_WORDS;
-    let counted = walk(s, entry, k, out);
-    match counted {
-        CountAnswer::Is(count) => {
-            clear_from(out, HEADER_WORDS * listed(count, k, room));
-            CountAnswer::Is(count)
-        }
-        CountAnswer::Refused(refusal) => {
-            clear_from(out, 0);
-            CountAnswer::Refused(refusal)
         }
     }
 }
@@ -145,7 +127,7 @@ pub fn header(s: &[u8], entry: Entry, k: usize) -> HeaderAnswer
     ensures unwritten { λ r. ⌜ now (s .exit) ≡ now (s .entry) ⌝ }
 {
     let mut one: [usize; HEADER_WORDS] = [0; HEADER_WORDS];
-    let counted = walk(s, entry, k, &mut one);
+    let counted = headers(s, entry, k, &mut one);
     match counted {
         CountAnswer::Is(count) => {
             if k < count {
@@ -167,5 +149,5 @@ pub fn count(s: &[u8], entry: Entry) -> CountAnswer
     ensures unwritten { λ r. ⌜ now (s .exit) ≡ now (s .entry) ⌝ }
 {
     let mut none: [usize; 0] = [];
-    walk(s, entry, 0, &mut none)
+    headers(s, entry, 0, &mut none)
 }
