@@ -1,5 +1,6 @@
 -- `list::headers` meets its contract. Assumes nothing.
-use Rattle.steps.proofs.Loop.{list-accepted, list-refused, slices-from, Going, going-first, going-long, going-refused, Past, past-stored, past-full, past-early, past-long, past-halt, past-late, past-on}
+use Rattle.steps.proofs.Loop.{list-accepted, list-refused, slices-from, Going, going-first, going-long, going-refused, Past}
+use Rattle.steps.proofs.Loop.{past-stored, past-full, past-early, past-long, past-halt, past-late, past-on}
 use Rattle.rules.specs.Walk.{trace}
 use Rattle.rules.specs.Place.{place}
 use lib.ListN.{length, length-set}
