@@ -31,7 +31,13 @@ enum bhirkulom_status {
     BHIRKULOM_NO_SUCH_ENTRY = 3
 };
 
-/* The kinds of header, and the layers of a refusal: a kind, or one of the last three. */
+/* What the number is that names the payload. */
+enum bhirkulom_numbering {
+    BHIRKULOM_ETHER_TYPE = 1,
+    BHIRKULOM_IP_NUMBER = 2
+};
+
+/* The kinds of header, and the layers of a refusal: a kind, or one of the last three. No header has the kind 0. */
 enum bhirkulom_kind {
     BHIRKULOM_KIND_ETHERNET2 = 1,
     BHIRKULOM_KIND_VLAN = 2,
@@ -100,7 +106,8 @@ struct bhirkulom_net {
     bool fragmented;
 };
 
-/* count: how many of tags are held. number: names the payload, an EtherType for stops 1 and 2, else an IP number. */
+/* count: how many of tags are held. number: names the payload; numbering: which number that is, an EtherType or an IP number, and 0
+ * where the frame isn't accepted. */
 struct bhirkulom_packet {
     size_t status;
     struct bhirkulom_head link;
@@ -109,7 +116,7 @@ struct bhirkulom_packet {
     struct bhirkulom_net net;
     struct bhirkulom_head transport;
     struct bhirkulom_span payload;
-    size_t number, stop;
+    size_t number, numbering, stop;
     struct bhirkulom_row refusal;
 };
 
@@ -137,7 +144,7 @@ struct bhirkulom_option_reply {
 };
 
 static_assert(sizeof(size_t) == 8, "x86-64 alone");
-static_assert(sizeof(struct bhirkulom_packet) == 240, "layout");
+static_assert(sizeof(struct bhirkulom_packet) == 248, "layout");
 static_assert(sizeof(struct bhirkulom_header_reply) == 80, "layout");
 static_assert(sizeof(struct bhirkulom_count_reply) == 64, "layout");
 static_assert(sizeof(struct bhirkulom_option_reply) == 56, "layout");
@@ -152,8 +159,8 @@ struct bhirkulom_header_reply bhirkulom_header(const uint8_t *frame, size_t len,
 struct bhirkulom_count_reply bhirkulom_count(const uint8_t *frame, size_t len, size_t entry);
 
 /* The headers of a frame from number k on, three numbers each: kind, offset, length. As many are written to heads as its room has whole
- * threes for; all else of it stays as it was. The answer is the frame's count. Of a refused frame the headers before the refusal
- * are written; it has none for all that, only its refusal. */
+ * threes for, and zeros to all the rest of it. Of a refused frame, and for a number that no entry has, zeros alone are written. What was in
+ * heads before plays no part. The answer is that of bhirkulom_count. */
 struct bhirkulom_count_reply bhirkulom_headers(const uint8_t *frame, size_t len, size_t entry, size_t k, size_t *heads, size_t room);
 
 /* Option number k, from 0, of what follows byte 20 of a TCP header. */

@@ -1,5 +1,6 @@
 //! One case at a time: every question asked of each side, the answers held against each other, the input held against a copy.
 
+use crate::handed;
 use crate::ours;
 #[cfg(shown)]
 use crate::shown;
@@ -23,8 +24,8 @@ impl Checker {
         self.tally.report(seed)
     }
 
-    /// The reply with all fields or the refusal with all it carries, header k for every k and two past the end, the count,
-    /// and the options of a TCP header that was found.
+    /// The reply with all fields or the refusal with all it carries, the number that names the payload with which it is, header k for
+    /// every k and two past the end, the count, the list with what is left behind it, and the options of a TCP header that was found.
     pub fn frame(&mut self, entry: frames::Entry, frame: &[u8]) {
         self.keep(frame);
         let (our, their) = ours::entry(entry);
@@ -32,6 +33,7 @@ impl Checker {
         let wanted = oracle::slice(their, frame);
         self.tally.reply(&wanted);
         self.same("reply", frame, &reply, &wanted);
+        self.same("number", frame, &handed::number(our, frame), &handed::number_wanted(&wanted));
         self.headers(entry, frame);
         #[cfg(shown)]
         shown::reply(&mut self.tally, their, frame, reply.clone());
@@ -78,6 +80,12 @@ impl Checker {
             &wanted.as_ref().map(Vec::len).map_err(|r| *r),
         );
         self.same("list", frame, &ours::headers(our, frame), &wanted);
+        // all headers and room behind them; room for two of them and one number; none
+        let whole = wanted.as_ref().map_or(0, Vec::len);
+        for (k, room) in [(0, 3 * whole + 17), (1, 7), (whole, 4)] {
+            let left = handed::list(our, frame, k, room);
+            self.same("list with zeros", frame, &left, &handed::list_wanted(&wanted, k, room));
+        }
         let last = count.unwrap_or(0) + 1;
         for k in 0..=last {
             let wanted = match &wanted {

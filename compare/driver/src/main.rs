@@ -4,9 +4,14 @@
 //!
 //! With --drawn only the drawn frames, options and sums are compared. A capture is a classic pcap file of Ethernet frames. The status is 0 where nothing differs, 1 where something does, 2 for
 //! trouble with the words or a file.
-#![forbid(unsafe_code)]
+#![deny(unsafe_code)]
 
+// the library's functions themselves: what they leave in lent numbers doesn't show through the wrapper
+#[allow(dead_code, unsafe_code)]
+#[path = "../../wrapper/src/boundary.rs"]
+mod boundary;
 mod check;
+mod handed;
 mod ours;
 mod pcap;
 #[cfg(shown)]

@@ -1,7 +1,6 @@
 //! Both sides give the same answers: to the frames that are timed, to each of them cut at every length, and to many with a few bytes changed.
 
 use crate::boundary::{self, CountReply, Packet, Row};
-use crate::jobs::ROOM;
 use crate::{mix, same, sum};
 
 fn words(p: &Packet) -> Vec<usize> {
@@ -9,7 +8,7 @@ fn words(p: &Packet) -> Vec<usize> {
     v.extend(p.tags.iter().flat_map(|t| [t.at, t.len]));
     v.extend([p.net.header.kind, p.net.header.at, p.net.header.len, p.net.exts.at, p.net.exts.len]);
     v.extend([p.net.fragmented as usize, p.transport.kind, p.transport.at, p.transport.len]);
-    v.extend([p.payload.at, p.payload.len, p.number, p.stop]);
+    v.extend([p.payload.at, p.payload.len, p.number, p.numbering, p.stop]);
     v.extend(row_words(&p.refusal));
     v
 }
@@ -18,22 +17,23 @@ fn row_words(r: &Row) -> [usize; 6] {
     [r.number, r.layer, r.offset, r.values[0], r.values[1], r.values[2]]
 }
 
-/// The status, the count, the refusal and the numbers of the headers, of one listing.
+/// The status, the count, the refusal and all of the lent numbers, which were full, of one listing.
 type Listing = (usize, usize, [usize; 6], Vec<usize>);
 
-fn listing(r: CountReply, heads: &[usize]) -> Listing {
-    (r.status, r.count, row_words(&r.refusal), heads[..3 * r.count].to_vec())
+fn listing(room: usize, list: impl Fn(&mut [usize]) -> CountReply) -> Listing {
+    let mut heads = vec![usize::MAX; room];
+    let r = list(&mut heads);
+    (r.status, r.count, row_words(&r.refusal), heads)
 }
 
 pub struct Check {
-    heads: Vec<usize>,
     pub compared: u64,
     pub different: u64,
 }
 
 impl Check {
     pub fn new() -> Check {
-        Check { heads: vec![0; ROOM], compared: 0, different: 0 }
+        Check { compared: 0, different: 0 }
     }
 
     fn hold<T: PartialEq + std::fmt::Debug>(&mut self, what: &str, s: &[u8], library: T, rust: T) {
@@ -48,13 +48,13 @@ impl Check {
 
     pub fn frame(&mut self, s: &[u8]) {
         self.hold("slice", s, words(&boundary::slice(s, 1)), words(&same::slice(s)));
-        let mut heads = std::mem::take(&mut self.heads);
-        let library = listing(boundary::headers(s, 1, 0, &mut heads), &heads);
-        let walked = listing(same::headers(s, &mut heads), &heads);
-        let straight = listing(same::headers_straight(s, &mut heads), &heads);
-        self.heads = heads;
-        self.hold("list", s, library.clone(), walked);
-        self.hold("straight list", s, library, straight);
+        // room behind all headers; then for two of them, and a number
+        let count = boundary::headers(s, 1, 0, &mut []).count;
+        for room in [3 * count + 17, 7] {
+            let library = listing(room, |heads| boundary::headers(s, 1, 0, heads));
+            self.hold("list", s, library.clone(), listing(room, |heads| same::headers(s, heads)));
+            self.hold("straight list", s, library, listing(room, |heads| same::headers_straight(s, heads)));
+        }
         self.hold("sum", s, boundary::sum_add(0, s), sum::sum(s));
     }
 

@@ -1,6 +1,6 @@
 //! How the cost grows: with the headers of a frame, with its length, and on the stack.
 
-use crate::jobs::{LIST, SLICE};
+use crate::jobs::{lent, LIST, SLICE};
 use crate::measure::times;
 use crate::{mix, stack};
 
@@ -29,6 +29,7 @@ pub fn stacks(heads: &mut [usize]) {
     println!("\n{:<10}{:>22}{:>22}", "headers", "slice, stack bytes", "list, stack bytes");
     for n in [3usize, 4, 100, 8000] {
         let s = mix::chain(n - 3);
+        let heads = lent(&s, heads);
         let (slice, list) = (stack::used(SLICE[0].1, &s, heads), stack::used(LIST[0].1, &s, heads));
         println!("{n:<10}{slice:>22}{list:>22}");
     }

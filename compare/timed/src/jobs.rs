@@ -5,10 +5,19 @@ use crate::{boundary, same, sum, walk};
 use bhirkulom::SlicedPacket;
 use std::hint::black_box;
 
-/// Numbers lent to a list of headers: room for those of the longest chain.
+/// Numbers to lend to a list of headers: room for those of the longest chain.
 pub const ROOM: usize = 3 * 8192;
 
-/// One side of a job: does it once. The lent numbers are written over each time and cleared by nobody.
+/// How many headers there is room for in what is lent, at least: as many as the wrapper lends room for.
+const FEW: usize = 16;
+
+/// Those of them that are lent for a frame. Each call writes all of them, zeros where it has no header, so more would be timed for their zeros.
+pub fn lent<'a>(s: &[u8], heads: &'a mut [usize]) -> &'a mut [usize] {
+    let count = boundary::headers(s, 1, 0, &mut []).count;
+    &mut heads[..3 * count.max(FEW)]
+}
+
+/// One side of a job: does it once.
 pub type Run = fn(&[u8], &mut [usize]);
 
 pub struct Job {

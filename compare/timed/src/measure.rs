@@ -1,6 +1,6 @@
 //! Times and counts of instructions.
 
-use crate::jobs::{Job, Run, NOTHING};
+use crate::jobs::{lent, Job, Run, NOTHING};
 use std::hint::black_box;
 use std::time::Instant;
 
@@ -31,6 +31,7 @@ fn median(mut v: Vec<f64>) -> f64 {
 /// Nanoseconds a call of each side: medians of rounds in which every side has its turn. The loop's own part is in them, since what a
 /// call and a loop take at once can't be told apart by subtraction.
 pub fn times(sides: &[(&str, Run)], s: &[u8], heads: &mut [usize]) -> Vec<f64> {
+    let heads = lent(s, heads);
     let once = timed(sides[0].1, s, heads, 16).max(1.0);
     let calls = (NANOSECONDS / once).ceil() as u64;
     let mut all = vec![vec![]; sides.len()];
@@ -56,6 +57,7 @@ pub fn loop_alone(heads: &mut [usize]) -> f64 {
 pub fn be_counted(jobs: &[Job], heads: &mut [usize]) {
     for job in jobs {
         for frame in &job.frames {
+            let heads = lent(&frame.bytes, heads);
             for run in std::iter::once(NOTHING).chain(job.sides.iter().map(|side| side.1)) {
                 call(run, &frame.bytes, heads, 3);
                 mark();

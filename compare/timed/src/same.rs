@@ -1,6 +1,7 @@
-//! The Rust side's answers handed over as the exports hand over theirs: in the same structs.
+//! The Rust side's answers handed over as the exports hand over theirs: in the same structs, with
+//! zeros in those of the lent numbers that have no header.
 
-use crate::boundary::{CountReply, Head, Net, Packet, Row, Span, REFUSED, THERE};
+use crate::boundary::{CountReply, Head, Net, Packet, Row, Span, ETHER_TYPE, IP_NUMBER, REFUSED, THERE};
 use crate::walk::{self, Answer, Kind, Number, Refusal, Sliced};
 use crate::{cursor, list};
 
@@ -33,6 +34,10 @@ fn row(refusal: Refusal) -> Row {
 }
 
 fn accepted(x: Sliced) -> Packet {
+    let (number, numbering) = match x.ending.number {
+        Number::EtherType(n) => (n as usize, ETHER_TYPE),
+        Number::Ip(n) => (n as usize, IP_NUMBER),
+    };
     Packet {
         status: THERE,
         link: x.link.map_or(NO_HEAD, head),
@@ -41,10 +46,8 @@ fn accepted(x: Sliced) -> Packet {
         net: x.net.map_or(NO_NET, |n| Net { header: head(n.header), exts: span(n.exts), fragmented: n.fragmented }),
         transport: x.transport.map_or(NO_HEAD, head),
         payload: span(x.ending.payload),
-        number: match x.ending.number {
-            Number::EtherType(n) => n as usize,
-            Number::Ip(n) => n as usize,
-        },
+        number,
+        numbering,
         stop: x.ending.stop as usize,
         refusal: NO_ROW,
     }
@@ -60,6 +63,7 @@ fn refused(refusal: Refusal) -> Packet {
         transport: NO_HEAD,
         payload: NO_SPAN,
         number: 0,
+        numbering: 0,
         stop: 0,
         refusal: row(refusal),
     }
@@ -74,21 +78,32 @@ pub fn slice(s: &[u8]) -> Packet {
     }
 }
 
-fn counted(answer: Answer<usize>) -> CountReply {
+/// Zeros go behind the headers once the walk is done, and over those of a refused frame.
+#[inline(always)]
+fn counted(answer: Answer<usize>, heads: &mut [usize]) -> CountReply {
     match answer {
-        Ok(count) => CountReply { status: THERE, count, refusal: NO_ROW },
-        Err(refusal) => CountReply { status: REFUSED, count: 0, refusal: row(refusal) },
+        Ok(count) => {
+            let written = 3 * count.min(heads.len() / 3);
+            heads[written..].fill(0);
+            CountReply { status: THERE, count, refusal: NO_ROW }
+        }
+        Err(refusal) => {
+            heads.fill(0);
+            CountReply { status: REFUSED, count: 0, refusal: row(refusal) }
+        }
     }
 }
 
 /// The headers of a whole Ethernet II frame, by the cursor.
 #[inline(never)]
 pub fn headers(s: &[u8], heads: &mut [usize]) -> CountReply {
-    counted(cursor::headers(s, heads))
+    let answer = cursor::headers(s, heads);
+    counted(answer, heads)
 }
 
 /// The same, written out layer by layer.
 #[inline(never)]
 pub fn headers_straight(s: &[u8], heads: &mut [usize]) -> CountReply {
-    counted(list::headers(s, heads))
+    let answer = list::headers(s, heads);
+    counted(answer, heads)
 }

@@ -11,6 +11,10 @@ pub const THERE: usize = 0;
 pub const NO_MORE: usize = 1;
 pub const REFUSED: usize = 2;
 
+/// What the number is that names the payload. Where no frame was accepted it is 0.
+pub const ETHER_TYPE: usize = 1;
+pub const IP_NUMBER: usize = 2;
+
 #[repr(C)]
 #[derive(Clone, Copy, Debug)]
 pub struct Span {
@@ -54,6 +58,7 @@ pub struct Packet {
     pub transport: Head,
     pub payload: Span,
     pub number: usize,
+    pub numbering: usize,
     pub stop: usize,
     pub refusal: Row,
 }
@@ -94,7 +99,7 @@ pub struct OptionReply {
 
 // the sizes that the C header states too
 const _: () = {
-    assert!(std::mem::size_of::<Packet>() == 240);
+    assert!(std::mem::size_of::<Packet>() == 248);
     assert!(std::mem::size_of::<HeaderReply>() == 80);
     assert!(std::mem::size_of::<CountReply>() == 64);
     assert!(std::mem::size_of::<OptionReply>() == 56);
@@ -131,6 +136,8 @@ pub fn count(frame: &[u8], entry: usize) -> CountReply {
     unsafe { bhirkulom_count(frame.as_ptr(), frame.len(), entry) }
 }
 
+/// The headers from number k on, three numbers each, as many as there is room for, and zeros behind them; zeros alone where no frame
+/// was accepted. What was in the lent numbers plays no part.
 pub fn headers(frame: &[u8], entry: usize, k: usize, heads: &mut [usize]) -> CountReply {
     // SAFETY: each pointer and its length are one slice's, and any entry number and any k get an answer
     unsafe { bhirkulom_headers(frame.as_ptr(), frame.len(), entry, k, heads.as_mut_ptr(), heads.len()) }

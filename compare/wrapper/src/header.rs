@@ -148,6 +148,7 @@ const FEW: usize = 16;
 #[derive(Clone, Debug)]
 pub struct Headers<'a> {
     frame: &'a [u8],
+    // zeros behind the headers; zeros alone for a refused frame
     few: [usize; NUMBERS * FEW],
     // empty where the few suffice
     many: Vec<usize>,

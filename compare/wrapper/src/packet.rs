@@ -1,6 +1,6 @@
 //! The reply to a frame: its parts, as slices of the frame, or its refusal.
 
-use crate::boundary::{self, Head, Net, Packet, Span, REFUSED, THERE};
+use crate::boundary::{self, Head, Net, Packet, Span, ETHER_TYPE, IP_NUMBER, REFUSED, THERE};
 use crate::header::{Entry, HeaderSlice, Kind};
 use crate::options::{tcp_options, TcpOptionsIterator};
 use crate::refusal::Refusal;
@@ -113,15 +113,14 @@ impl<'a> SlicedPacket<'a> {
     }
 
     fn new(frame: &'a [u8], reply: &Packet) -> SlicedPacket<'a> {
-        let stop = Stop::by_number(reply.stop);
         SlicedPacket {
             link: part(frame, reply.link),
             tags: Tags::new(frame, reply),
             net: NetSlice::new(frame, &reply.net),
             transport: part(frame, reply.transport),
             payload: PartSlice::new(frame, reply.payload),
-            number: Number::new(stop, reply.number),
-            stop,
+            number: Number::new(reply.numbering, reply.number),
+            stop: Stop::by_number(reply.stop),
         }
     }
 }
@@ -184,11 +183,12 @@ impl fmt::Debug for Tags<'_> {
 }
 
 impl Number {
-    // "The naming number is the EtherType for stops 1 and 2, else the last IP number"; it has two bytes or one
-    fn new(stop: Stop, number: usize) -> Number {
-        match stop {
-            Stop::EtherTypeNotOpened | Stop::TagsFull => Number::EtherType(number as u16),
-            Stop::Fragment | Stop::IpNumberNotOpened | Stop::TransportRead => Number::Ip(number as u8),
+    // an EtherType has two bytes, an IP number one
+    fn new(numbering: usize, number: usize) -> Number {
+        match numbering {
+            ETHER_TYPE => Number::EtherType(number as u16),
+            IP_NUMBER => Number::Ip(number as u8),
+            other => unreachable!("no number of an accepted frame has the numbering {other}"),
         }
     }
 }

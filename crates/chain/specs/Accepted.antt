@@ -14,7 +14,8 @@ use Rattle.slicer.specs.declared.packet.SlicedPacket.{SlicedPacket}
 use Rattle.slicer.specs.Reply.{outcomeOnPaper, packetOnPaper, nothing, Reply, sliceWay, acceptedBy, replyOf}
 use Rattle.slicer.specs.Reply as P
 use Rattle.chain.specs.Chain.{ChainOf}
-use Rattle.chain.specs.Walked.{Walked, whole-walk, broken-walk, walked, chain→slices}
+use Rattle.chain.specs.Walked.{Walked, whole-walk, broken-walk, walked}
+use Rattle.chain.specs.Given.{chain-reply}
 use Rattle.chain.specs.Answers.{Sliced}
 
 -- a chain of the frame, by its entry, with the headers hs and the stop x
@@ -30,8 +31,7 @@ pub record AcceptedIffChain (entry : Entry) (s : List ℕ) (o : Outcome) : Type 
 -- the whole reply of a frame with a chain: the stop is the chain's, and the parts are gathered from its headers
 pub chain→reply : (entry : Entry) (s : List ℕ) {hs : List HeaderAt} {x : Stopped} (r : SlicedPacket) → Sliced entry s r → HasChain entry s hs x
     → packetOnPaper r ≡ acceptedBy (listed sliceWay nothing hs) x
-unfolding replyOf gathered
-chain→reply entry s r e c = e ∙ rw (chain→slices entry s c)
+chain→reply entry s r e c = e ∙ chain-reply entry s c
 
 is-accepted : (o : Outcome) {x : Stopped} → outcomeOnPaper o ≡ P.accepted x → (e : Ending) × (o ≡ O.Accepted e) × (endingOnPaper e ≡ x)
 is-accepted (O.Accepted e) q = (e, refl, cc)

@@ -1,4 +1,5 @@
--- Only the deciding bytes of the headers that are met matter: two frames of one length that agree on those get one walk.
+-- Only the deciding bytes of the headers that are met matter: two frames of one length that agree on those get one walk, and with it the
+-- same answers.
 use Prim.Native.Nat.{ℕ, zero, suc, _-_}
 use mathlib.Core.Path.{_≡_, refl, sym, ap, _∙_, subst}
 use mathlib.Core.List.{List}
@@ -6,21 +7,14 @@ use lib.ListN.{length}
 use Rattle.rules.specs.declared.entry.Entry.{Entry}
 use Rattle.rules.specs.declared.place.Place.{Place}
 use Rattle.rules.specs.Place.{Follow, next, halt, wrong, Found, bytes, outcome, read, opening}
-use Rattle.rules.specs.Walk.{Trace, HeaderAt, headerOf, countOf, step, walk, trace, onward, slices}
-use Rattle.laws.specs.Gather.{gathered}
+use Rattle.rules.specs.Walk.{step, walk, trace, onward, slices}
 use Rattle.laws.specs.Reads.{parts}
 use Rattle.laws.specs.Walks.{step-same}
 use Rattle.laws.specs.Openings.{opening-begins, never-halts, endingAt, AgreeAt, opening-elsewhere, wrong-elsewhere}
 use Rattle.chain.specs.Chain.{Stands, Leads}
 use Rattle.chain.specs.Walked.{stands, next-leads}
 use Rattle.chain.specs.Agree.{same-deciding}
-use Rattle.slicer.specs.declared.packet.SlicedPacket.{SlicedPacket}
-use Rattle.steps.specs.declared.list.HeaderAnswer.{HeaderAnswer}
-use Rattle.steps.specs.declared.list.CountAnswer.{CountAnswer}
-use Rattle.slicer.specs.Reply.{nothing, sliceWay, replyOf}
-use Rattle.steps.specs.Lists.{headersRead, writtenFrom}
-use Rattle.chain.specs.Answers.{Sliced, HeaderIs, CountIs, ListIs}
-use Rattle.chain.specs.Back.{settled-by, packet-back, header-back, count-back}
+use Rattle.chain.specs.Alike.{shown, blank, Alike}
 
 -- q is a place that the walk of s from p comes to, refused or not
 pub data Reach (s : List ℕ) : Place → Place → Type 0 where
@@ -63,22 +57,6 @@ deciding-bytes e s t l h = go (opening e s) refl
     go (halt x) w = absurd (never-halts e s w)
     go (wrong r) w = ap (onward s) w ∙ ap (onward t) (sym (wrong-elsewhere e s t w l))
 
--- ---- for the public answers: frames of one length that agree on the deciding bytes of every header that the first one's walk
--- comes to, the refused one included, get the same answers
-
-module _ (entry : Entry) (s t : List ℕ) (e : length s ≡ length t) (h : (q : Place) → ReachFrom s (opening entry s) q → AgreeAt s t q) where
-  same-walk : slices entry t ≡ slices entry s
-  same-walk = sym (deciding-bytes entry s t e h)
-
-  pub same-reply : (a b : SlicedPacket) → Sliced entry s a → Sliced entry t b → a ≡ b
-  unfolding replyOf
-  same-reply a b f g = settled-by packet-back f (g ∙ ap (gathered sliceWay nothing) same-walk)
-
-  pub same-header : (k : ℕ) (a b : HeaderAnswer) → HeaderIs entry s k a → HeaderIs entry t k b → a ≡ b
-  same-header k a b f g = settled-by header-back f (g ∙ ap (λ (w : Trace HeaderAt). headerOf w k) same-walk)
-
-  pub same-count : (a b : CountAnswer) → CountIs entry s a → CountIs entry t b → a ≡ b
-  same-count a b f g = settled-by count-back f (g ∙ ap countOf same-walk)
-
-  pub same-list : (k : ℕ) (before a b : List ℕ) → ListIs entry s k before a → ListIs entry t k before b → a ≡ b
-  same-list k before a b f g = f ∙ ap (λ (w : Trace HeaderAt). writtenFrom k (headersRead w) before) (sym same-walk) ∙ sym g
+-- so such frames are alike, and get the same public answers (Alike.antt)
+pub agreeing-alike : (e : Entry) (s t : List ℕ) → length s ≡ length t → ((q : Place) → ReachFrom s (opening e s) q → AgreeAt s t q) → Alike e s t
+agreeing-alike e s t l h = ap (shown blank) (deciding-bytes e s t l h)

@@ -1,7 +1,7 @@
 -- Document 01's starred frames, F1 to F10, in one table under one claim, by computation; besides them F12, the 60-byte line and the
 -- first byte 0x54. Bytes that the paper leaves open are zero.
 use Prim.Native.Nat.{ℕ, _*_, _/_, _%_}
-use mathlib.Core.Path.{_≡_, refl, ap}
+use mathlib.Core.Path.{_≡_, refl, ap, _∙_}
 use mathlib.Core.List.{List, [], _∷_, _++_, map}
 use lib.ListN.{replicate}
 use Rattle.rules.specs.declared.kind.Kind.the-variants.{Ethernet2, Vlan, Ipv4, Ipv6, HopByHop, Auth, Udp, Tcp}
@@ -18,7 +18,9 @@ use Rattle.rules.specs.Rules.{lengthOf, declaredOf, fragmentOf, namesOf, turnOf
 use Rattle.rules.specs.Place.{leaves, follow, followOf, bytes, outcome, read, start, opening}
 use Rattle.rules.specs.Walk.{walk, trace, slices}
 use Rattle.laws.specs.Gather.{gathered, listed}
-use Rattle.checksum.specs.Sum.{total, totals, fold, answer, noZero}
+use Rattle.checksum.specs.declared.Sum16BitWords.{Sum16BitWords}
+use Rattle.checksum.specs.Sum.{total, totals, fold, answer, noZero, addSlice, addSlices}
+use Rattle.checksum.specs.Laws.{add-slices}
 use Rattle.rules.specs.declared.entry.Entry.the-variants as E
 use Rattle.slicer.specs.declared.packet.SlicedPacket.{SlicedPacket}
 use Rattle.slicer.specs.Reply.{Ended, accepted, refused, Reply, slots, outcomeOnPaper, replyOf}
@@ -29,25 +31,25 @@ use Rattle.chain.specs.Answers.{Sliced}
 unfoldable pub zeros : ℕ → List ℕ
 zeros n = replicate n 0
 
-two : ℕ → List ℕ
+unfoldable pub two : ℕ → List ℕ
 two n = n / 256 ∷ n % 256 ∷ []
 
-ethernet : (type : ℕ) → List ℕ
+unfoldable pub ethernet : (type : ℕ) → List ℕ
 ethernet type = zeros 12 ++ two type
 
-tag : (type : ℕ) → List ℕ
+unfoldable pub tag : (type : ℕ) → List ℕ
 tag type = zeros 2 ++ two type
 
-ipv4 : (first total protocol : ℕ) → List ℕ
+unfoldable pub ipv4 : (first total protocol : ℕ) → List ℕ
 ipv4 first total protocol = first ∷ 0 ∷ two total ++ zeros 5 ++ (protocol ∷ zeros 10)
 
-ipv6 : (payload next : ℕ) → List ℕ
+unfoldable pub ipv6 : (payload next : ℕ) → List ℕ
 ipv6 payload next = 0x60 ∷ zeros 3 ++ two payload ++ (next ∷ zeros 33)
 
-udp : (len : ℕ) → List ℕ
+unfoldable pub udp : (len : ℕ) → List ℕ
 udp len = zeros 4 ++ two len ++ zeros 2
 
-tcp : (offset : ℕ) → List ℕ
+unfoldable pub tcp : (offset : ℕ) → List ℕ
 tcp offset = zeros 12 ++ (offset * 16 ∷ zeros 7)
 
 -- ---- questions and answers
@@ -140,3 +142,30 @@ frames-right = refl
 pub frame-told : (s : List ℕ) (r : SlicedPacket) → Sliced E.Ethernet s r → reply (outcomeOnPaper (r .outcome)) ≡ ask (frame s)
 unfolding ask
 frame-told s r e = ap (λ (p : Reply). reply (p .ended)) e
+
+-- ---- and so are the sums: a state that came from `new` by `add_slice` of each slice in order
+
+pub data Summed : List (List ℕ) → Sum16BitWords → Type 0 where
+  from-none : {r : Sum16BitWords} → r .sum ≡ fold (totals []) → Summed [] r
+  with-slice : {slices : List (List ℕ)} (s : List ℕ) {before r : Sum16BitWords} → Summed slices before → r .sum ≡ addSlice (before .sum) s
+      → Summed (slices ++ (s ∷ [])) r
+
+-- "state by value": the sum of no slices is 0
+pub none-summed : Summed [] (record { sum = 0 })
+unfolding fold totals
+none-summed = from-none refl
+
+-- holds the folded sum of them
+summed : {slices : List (List ℕ)} {r : Sum16BitWords} → Summed slices r → r .sum ≡ fold (totals slices)
+unfolding addSlices
+summed (from-none e) = e
+summed (with-slice {slices} s x e) = e ∙ ap (λ (n : ℕ). addSlice n s) (summed x) ∙ add-slices slices (s ∷ [])
+
+-- so what `ones_complement` and `to_ones_complement_with_no_zero` tell of it is what the table's rows have
+pub sum-told : (slices : List (List ℕ)) (r : Sum16BitWords) (a : ℕ) → Summed slices r → a ≡ answer (r .sum) → checksum a ≡ ask (sum slices)
+unfolding ask
+sum-told slices r a x e = ap checksum (e ∙ ap answer (summed x))
+
+pub no-zero-told : (slices : List (List ℕ)) (r : Sum16BitWords) (a : ℕ) → Summed slices r → a ≡ noZero (answer (r .sum)) → checksum a ≡ ask (no-zero slices)
+unfolding ask
+no-zero-told slices r a x e = ap checksum (e ∙ ap (λ (n : ℕ). noZero (answer n)) (summed x))

@@ -16,10 +16,14 @@ use Rattle.steps.specs.declared.list.HeaderAnswer.{HeaderAnswer}
 use Rattle.steps.specs.declared.list.HeaderAnswer.the-variants as H
 use Rattle.steps.specs.declared.list.CountAnswer.{CountAnswer}
 use Rattle.steps.specs.declared.list.CountAnswer.the-variants as C
-use Rattle.steps.specs.Lists.{headerOnPaper, countOnPaper, headersRead, writtenFrom}
+use Rattle.laws.specs.Zeros.{zeros}
+use Rattle.rules.specs.declared.refusal.Row.{Row}
+use Rattle.steps.specs.Lists.{headerOnPaper, countOnPaper, writtenFrom}
 use Rattle.chain.specs.Chain.{listedAt, Chain, last, more, At, here, later}
 use Rattle.chain.specs.Accepted.{HasChain}
-use Rattle.chain.specs.Walked.{Walked, whole-walk, broken-walk, walked, chain→slices}
+use Rattle.chain.specs.Broken.{BrokenOf}
+use Rattle.chain.specs.Walked.{Walked, whole-walk, broken-walk, walked}
+use Rattle.chain.specs.Given.{chain-header, chain-count, chain-list, broken-list}
 use Rattle.chain.specs.Answers.{HeaderIs, CountIs, ListIs}
 
 -- the header h is number k of a chain
@@ -44,7 +48,7 @@ pub record CountIsLength (entry : Entry) (s : List ℕ) (r : CountAnswer) : Type
 
 -- ---- header 0, 1, 2 and so on
 
-at-nth : {hs : List HeaderAt} {k : ℕ} {e : HeaderAt} → At hs k e → nth (map header hs) k ≡ is (header e)
+pub at-nth : {hs : List HeaderAt} {k : ℕ} {e : HeaderAt} → At hs k e → nth (map header hs) k ≡ is (header e)
 at-nth here = refl
 at-nth (later a) = at-nth a
 
@@ -64,13 +68,11 @@ is-count (C.Refused r) e = cc
 
 listed-as : (entry : Entry) (s : List ℕ) {hs : List HeaderAt} {x : Stopped} (k : ℕ) (r : HeaderAnswer) → HasChain entry s hs x → HeaderIs entry s k r
     → headerOnPaper r ≡ nth (map header hs) k
-unfolding headerOf
-listed-as entry s k r c e = e ∙ rw (chain→slices entry s c)
+listed-as entry s k r c e = e ∙ chain-header entry s c k
 
 counted-as : (entry : Entry) (s : List ℕ) {hs : List HeaderAt} {x : Stopped} (r : CountAnswer) → HasChain entry s hs x → CountIs entry s r
     → countOnPaper r ≡ is (length hs)
-unfolding countOf
-counted-as entry s r c e = e ∙ rw (chain→slices entry s c)
+counted-as entry s r c e = e ∙ chain-count entry s c
 
 -- every number below the length has its header
 pub every-header : (hs : List HeaderAt) (k : ℕ) → k < length hs → (e : HeaderAt) × At hs k e
@@ -97,7 +99,7 @@ each-once (last h c) a b = let z = at-below b in absurd (omega arith)
 
 -- ---- and the other way: what is answered comes from a chain
 
-at-of : (hs : List HeaderAt) (k : ℕ) {h : Header} → nth (map header hs) k ≡ is h → (e : HeaderAt) × At hs k e × (header e ≡ h)
+pub at-of : (hs : List HeaderAt) (k : ℕ) {h : Header} → nth (map header hs) k ≡ is h → (e : HeaderAt) × At hs k e × (header e ≡ h)
 at-of [] k q = let w : _≡_ {A = ℕ} 0 1 = cc in absurd (omega arith)
 at-of (e ∷ hs) zero q = (e, here, cc)
 at-of (e ∷ hs) (suc k) q = let z = at-of hs k q in (z .0, later (z .1), z .2)
@@ -135,8 +137,12 @@ count-is-length entry s r q =
       from-chain = λ n o. count→chain entry s r n q o;
     }
 
--- what `headers` writes: the chain's headers from number k on, in order, as far as there is room
-pub list-in-order : (entry : Entry) (s : List ℕ) (k : ℕ) (before after : List ℕ) (hs : List HeaderAt) (x : Stopped) → HasChain entry s hs x
-    → ListIs entry s k before after → after ≡ writtenFrom k (map header hs) before
-unfolding headersRead
-list-in-order entry s k before after hs x c q = q ∙ rw (chain→slices entry s c)
+-- what `headers` leaves in n lent numbers: the chain's headers from number k on, in order, as far as there is room, and zeros behind them; of a
+-- refused frame zeros alone, so nothing that reads as a header
+pub record ListInOrder (entry : Entry) (s : List ℕ) (k n : ℕ) (after : List ℕ) : Type 0 where
+  pub in-order : (hs : List HeaderAt) (x : Stopped) → HasChain entry s hs x → after ≡ writtenFrom k (map header hs) (zeros n)
+  pub of-refused : (hs : List HeaderAt) (r : Row) → BrokenOf entry s hs r → after ≡ zeros n
+
+pub list-in-order : (entry : Entry) (s : List ℕ) (k n : ℕ) (after : List ℕ) → ListIs entry s k n after → ListInOrder entry s k n after
+list-in-order entry s k n after q =
+    record { in-order = λ hs x c. q ∙ chain-list entry s c k n; of-refused = λ hs r b. q ∙ broken-list entry s b k n }

@@ -4,6 +4,7 @@ pub mod Chain
 pub mod Broken
 pub mod Walked
 pub mod Answers
+pub mod Given
 pub mod Accepted
 pub mod OneChain
 pub mod Headers
@@ -12,10 +13,16 @@ pub mod AsksForMore
 pub mod Inside
 pub mod Back
 pub mod Settled
+pub mod SettledValues
+pub mod Alike
 pub mod Agree
 pub mod Deciding
 pub mod Padding
 pub mod Twins
 pub mod DeclaredLength
+pub mod Exported
+pub mod Printed
+pub mod TcpOptions
 pub mod Frames
 pub mod Idle
+pub mod Witness

@@ -21,7 +21,8 @@ use Rattle.slicer.specs.Reply.{outcomeOnPaper, packetOnPaper, nothing, Reply, s
 use Rattle.slicer.specs.Reply as P
 use Rattle.steps.specs.Lists.{headerOnPaper, countOnPaper}
 use Rattle.chain.specs.Broken.{BrokenOf}
-use Rattle.chain.specs.Walked.{Walked, whole-walk, broken-walk, walked, broken→slices}
+use Rattle.chain.specs.Walked.{Walked, whole-walk, broken-walk, walked}
+use Rattle.chain.specs.Given.{broken-reply, broken-header, broken-count}
 use Rattle.chain.specs.Answers.{Sliced, HeaderIs, CountIs}
 
 -- the walk of the frame, by its entry, breaks behind the headers hs with the row r
@@ -52,28 +53,26 @@ is-count-refused (C.Refused q) e = (q, refl, cc)
 module _ (entry : Entry) (s : List ℕ) {hs : List HeaderAt} {r : Row} (b : Breaks entry s hs r) where
   -- and of the frame nothing else is told
   pub broken→reply : (a : SlicedPacket) → Sliced entry s a → packetOnPaper a ≡ refusedBy r
-  unfolding replyOf gathered
-  broken→reply a e = e ∙ rw (broken→slices entry s b)
+  broken→reply a e = e ∙ broken-reply entry s b
 
   reply-refused : (a : SlicedPacket) → Sliced entry s a → (q : Refusal) × (a .outcome ≡ O.Refused q) × (refusalOnPaper q ≡ r)
   reply-refused a e = is-refused (a .outcome) (ap (λ (p : Reply). p .ended) (broken→reply a e))
 
   header-refused : (k : ℕ) (a : HeaderAnswer) → HeaderIs entry s k a → (q : Refusal) × (a ≡ H.Refused q) × (refusalOnPaper q ≡ r)
-  unfolding headerOf
-  header-refused k a e = is-header-refused a (e ∙ rw (broken→slices entry s b))
+  header-refused k a e = is-header-refused a (e ∙ broken-header entry s b k)
 
   count-refused : (a : CountAnswer) → CountIs entry s a → (q : Refusal) × (a ≡ C.Refused q) × (refusalOnPaper q ≡ r)
-  unfolding countOf
-  count-refused a e = is-count-refused a (e ∙ rw (broken→slices entry s b))
+  count-refused a e = is-count-refused a (e ∙ broken-count entry s b)
 
 -- ---- a refusal is given only where the walk breaks, at that row
 
-module _ (entry : Entry) (s : List ℕ) (q : Refusal) where
-  nth-not : (hs : List HeaderAt) (k : ℕ) {r : Row} → refusal r ≡ nth (map header hs) k → ⊥
-  nth-not [] k y = let w : _≡_ {A = ℕ} 0 1 = cc in omega arith
-  nth-not (h ∷ hs) zero y = let w : _≡_ {A = ℕ} 0 1 = cc in omega arith
-  nth-not (h ∷ hs) (suc k) y = nth-not hs k y
+-- a list of headers has no refusal at any number
+pub nth-not : (hs : List HeaderAt) (k : ℕ) {r : Row} → refusal r ≡ nth (map header hs) k → ⊥
+nth-not [] k y = let w : _≡_ {A = ℕ} 0 1 = cc in omega arith
+nth-not (h ∷ hs) zero y = let w : _≡_ {A = ℕ} 0 1 = cc in omega arith
+nth-not (h ∷ hs) (suc k) y = nth-not hs k y
 
+module _ (entry : Entry) (s : List ℕ) (q : Refusal) where
   -- the walk breaks with the row of q
   abbrev BreaksSo : Type 0
   BreaksSo = (hs : List HeaderAt) × Breaks entry s hs (refusalOnPaper q)

@@ -1,6 +1,6 @@
 -- "Each public answer is settled by its input alone, refusals with all that they carry included. Prove that no second answer
 -- satisfies the same contract": a statement for each public function. Of two answers x and y that both satisfy its `ensures`, x ≡ y.
--- The public functions of these crates that are not named here say what they return by `r ≡ ..`. One exception: header_at, below.
+-- The functions whose contract says `r ≡ value` have theirs in SettledValues.antt. One exception: header_at, below.
 use Prim.Native.Nat.{ℕ, _+_, _-_}
 use mathlib.Core.Path.{_≡_, refl, sym, ap, _∙_}
 use mathlib.Core.Bool.{Bool, false}
@@ -23,7 +23,7 @@ use Rattle.rules.specs.declared.turn.Turn.the-variants as T
 use Rattle.rules.specs.Test.{placed}
 use Rattle.rules.specs.Paper.{faultOnPaper, refusalOnPaper}
 use Rattle.rules.specs.Rules.{link, transport}
-use Rattle.rules.specs.Place.{room, Found, Stopped, Follow, halt, follow, reads, refuses, opening}
+use Rattle.rules.specs.Place.{room, Found, Stopped, Follow, halt, follow, reads, refuses}
 use Rattle.rules.specs.Place as W
 use Rattle.headers.specs.declared.link.LinkRead.{LinkRead}
 use Rattle.headers.specs.declared.net.IpRead.{IpRead}
@@ -49,15 +49,16 @@ use Rattle.slicer.specs.declared.options.OptionsPart.{OptionsPart}
 use Rattle.slicer.specs.Options.{optionsOf}
 use Rattle.steps.specs.declared.place.Step.{Step}
 use Rattle.slicer.specs.Reply.{packetOnPaper, replyOf}
-use Rattle.steps.specs.Places.{stepOnPaper, stepSays}
+use Rattle.steps.specs.Places.{same-place}
 use Rattle.checksum.specs.declared.Sum16BitWords.{Sum16BitWords}
 use Rattle.checksum.specs.Sum.{fold, totals, addSlice, answer, noZero}
 use Rattle.tcp_options.specs.declared.answer.OptionAnswer.{OptionAnswer}
 use Rattle.tcp_options.specs.Options.{options, optionOf}
 use Rattle.tcp_options.specs.Paper.{optionOnPaper}
 use Rattle.tcp_options.specs.Settled.{settled}
-use Rattle.chain.specs.Answers.{Sliced, HeaderIs, CountIs, ListIs}
-use Rattle.chain.specs.Back.{settled-by, stop-back, refusal-back, link-back, ip-back, ext-back, transport-back}
+use Rattle.chain.specs.Answers.{Sliced, HeaderIs, CountIs, ListIs, FirstIs, StepIs}
+use Rattle.laws.specs.Back.{settled-by, stop-back}
+use Rattle.chain.specs.Back.{refusal-back, link-back, ip-back, ext-back, transport-back}
 use Rattle.chain.specs.Back.{link-at-back, ip-at-back, ext-at-back, transport-at-back, link-turn-back, transport-turn-back}
 use Rattle.chain.specs.Back.{packet-back, header-back, count-back, step-back}
 
@@ -66,7 +67,7 @@ abbrev pub Settles : {A : Type 0} → (A → Type 0) → Type 0
 Settles {A} contract = (x y : A) → contract x → contract y → x ≡ y
 
 -- an answer that is said to equal a value is settled
-same-value : {A : Type 0} {x y z : A} → x ≡ z → y ≡ z → x ≡ y
+pub same-value : {A : Type 0} {x y z : A} → x ≡ z → y ≡ z → x ≡ y
 same-value e f = e ∙ sym f
 
 -- ---- crate rules: Fault::at
@@ -246,13 +247,13 @@ pub count : (entry : Entry) (s : List ℕ) → Settles (CountIs entry s)
 count entry s x y e f = settled-by count-back e f
 
 -- its answer is count's; this is what it leaves in the lent numbers
-pub headers : (entry : Entry) (s : List ℕ) (k : ℕ) (before : List ℕ) → Settles (ListIs entry s k before)
-headers entry s k before x y e f = same-value e f
+pub headers : (entry : Entry) (s : List ℕ) (k n : ℕ) → Settles (ListIs entry s k n)
+headers entry s k n x y e f = same-value e f
 
-pub first : (entry : Entry) (s : List ℕ) → Settles (λ (r : Place). W.next r ≡ opening entry s)
-first entry s x y e f = unnext (e ∙ sym f)
+pub first : (entry : Entry) (s : List ℕ) → Settles (FirstIs entry s)
+first entry s x y e f = same-place (e ∙ sym f)
 
-pub next : (s : List ℕ) (p : Place) → Settles (λ (r : Step). stepOnPaper r ≡ stepSays s p)
+pub next : (s : List ℕ) (p : Place) → Settles (StepIs s p)
 next s p x y e f = settled-by step-back e f
 
 -- ---- crate checksum: the state has one field

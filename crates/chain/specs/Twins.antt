@@ -1,7 +1,7 @@
 -- The declared-length sentence for the walk; DeclaredLength.antt has it for the public answers.
 use Prim.Native.Nat.{ℕ, _≤_, _+_, _-_}
 use mathlib.Core.Path.{_≡_, refl, sym, ap, _∙_, subst}
-use mathlib.Core.List.{List, map}
+use mathlib.Core.List.{List}
 use native.Mathlib.Omega.{arith}
 use lib.ListN.{length}
 use Rattle.rules.specs.declared.entry.Entry.{Entry}
@@ -18,6 +18,7 @@ use Rattle.laws.specs.Openings.{ending, endingAt, AgreeAt, opening-elsewhere}
 use Rattle.chain.specs.Chain.{lengthAt, roomAt, pastAt, listedAt, Stands, Leads}
 use Rattle.chain.specs.Walked.{stands, next-leads, one-next, steps}
 use Rattle.chain.specs.Agree.{AgreeTo, agree-early, same-ending}
+use Rattle.chain.specs.Alike.{shown, endingIn}
 use Rattle.chain.specs.Padding.{within, IsLink, link-leaves, link-passes, link-turn, sets}
 
 -- ---- what is assumed
@@ -49,12 +50,7 @@ covers-and-fits s p h o =
     let z = sets (p .kind) (bytes s p) (p .at) (p .room) (p .at + declaredAt s p) (h .passes) o (omega arith) in
     (omega (arith, h .holds, z .sets), omega (arith, h .nested, z .sets))
 
--- ---- what is told of a walk
-
-abbrev pub shown : {A B : Type 0} → (A → B) → Trace A → Trace B
-shown f (accepted hs x) = accepted (map f hs) x
-shown f (refused hs r) = refused (map f hs) r
-shown f unfinished = unfinished
+-- ---- what is told of a walk (Alike.antt)
 
 shown-behind : {A B : Type 0} (f : A → B) (a : A) (t : Trace A) → shown f (behind a t) ≡ behind (f a) (shown f t)
 shown-behind f a (accepted hs x) = refl
@@ -62,9 +58,6 @@ shown-behind f a (refused hs r) = refl
 shown-behind f a unfinished = refl
 
 -- the room of a link header ends where the frame does; this alone may differ, and f does not tell it
-abbrev pub endingIn : HeaderAt → ℕ → HeaderAt
-endingIn e n = record { kind = e .kind; at = e .at; len = e .len; room = ending (e .room) n }
-
 abbrev pub Tells : {B : Type 0} → (HeaderAt → B) → Type 0
 Tells f = (e : HeaderAt) (n : ℕ) → IsLink (e .kind) → f e ≡ f (endingIn e n)
 

@@ -1,5 +1,6 @@
-// Demand 3, said of the answers that code gives: each function hands on an answer of the slicer, and its contract is the theorem.
-// The theorems themselves, with all that they assume, stand in specs.
+// Demand 3, said of the answers that code gives: each function hands on an answer of a public function, and its contract is the theorem, so
+// that a change of a contract that would break a theorem breaks the check. The theorems themselves stand in specs. Here are the
+// reply, header k and the count; the other entries, the list, options, sums and exports have a file each.
 ghost use mathlib.Core.Path.{_≡_};
 ghost use Rattle.rules.specs.declared.refusal.Refusal.{Refusal};
 ghost use Rattle.slicer.specs.declared.packet.Outcome.the-variants as O;
@@ -12,6 +13,13 @@ use rules::Entry;
 use slicer::Outcome;
 use steps::CountAnswer;
 use steps::HeaderAnswer;
+
+pub mod entries;
+pub mod exported;
+pub mod lists;
+pub mod options;
+pub mod sums;
+pub mod texts;
 
 // How the walk of a frame ends: accepted exactly when there is a chain; refused exactly where the walk breaks.
 pub fn outcome(s: &[u8], entry: Entry) -> Outcome

@@ -92,7 +92,8 @@ impl Sum16BitWords {
 
     // A slice of odd length is padded with one zero byte where it ends, also when another slice follows it.
     pub fn add_slice(self, slice: &[u8]) -> Self
-        ensures { λ r. ⌜ r .sum ≡ addSlice (self .sum) (now (slice .entry)) ⌝ }
+        ensures answer { λ r. ⌜ r .sum ≡ addSlice (self .sum) (now (slice .entry)) ⌝ }
+        ensures unwritten { λ r. ⌜ now (slice .exit) ≡ now (slice .entry) ⌝ }
     {
         let start = self.sum;
         let sum = add_blocks(start, slice);

@@ -23,7 +23,8 @@ use Rattle.slicer.specs.declared.packet.TransportPart.{TransportPart}
 use Rattle.slicer.specs.declared.packet.TransportPart.the-variants as T
 use Rattle.slicer.specs.declared.packet.SlicedPacket.{SlicedPacket}
 use Rattle.slicer.specs.Reply.{range, Reply, Ended, accepted, refused, replyOf, noHeader, slots}
-use Rattle.steps.specs.Lists.{headersRead, writtenFrom}
+use Rattle.laws.specs.Zeros.{zeros}
+use Rattle.steps.specs.Lists.{listOf}
 use Rattle.tcp_options.specs.declared.answer.OptionRow.{OptionRow}
 use Rattle.tcp_options.specs.Options as O
 use Rattle.exports.specs.declared.Chosen.{Chosen}
@@ -82,6 +83,11 @@ abbrev pub numberOf : Number → ℕ
 numberOf (M.Link t) = t .0
 numberOf (M.Ip n) = n .0
 
+-- which number that is: an EtherType, or an IP number
+abbrev pub numberingOf : Number → ℕ
+numberingOf (M.Link t) = 1
+numberingOf (M.Ip n) = 2
+
 abbrev pub noRow : Row
 noRow = record { number = 0; layer = 0; offset = 0; values = 0 ∷ 0 ∷ 0 ∷ [] }
 
@@ -92,15 +98,23 @@ pub record End : Type 0 where
   pub status : ℕ
   pub payload : Range
   pub number : ℕ
+  pub numbering : ℕ
   pub stop : ℕ
   pub refusal : Row
 
 -- no walk was accepted
 abbrev pub unread : ℕ → Row → End
-unread status row = record { status = status; payload = range 0 0; number = 0; stop = 0; refusal = row }
+unread status row = record { status = status; payload = range 0 0; number = 0; numbering = 0; stop = 0; refusal = row }
 
 abbrev pub endOf : Ended → End
-endOf (accepted x) = record { status = there; payload = range (x .at) (x .len); number = numberOf (x .number); stop = x .why; refusal = noRow }
+endOf (accepted x) = record {
+  status = there;
+  payload = range (x .at) (x .len);
+  number = numberOf (x .number);
+  numbering = numberingOf (x .number);
+  stop = x .why;
+  refusal = noRow;
+}
 endOf (refused q) = unread isRefused q
 
 abbrev pub packet : Header → ℕ → List Header → Net → Header → End → Packet
@@ -113,6 +127,7 @@ packet link count tags net transport end = record {
   transport = transport;
   payload = end .payload;
   number = end .number;
+  numbering = end .numbering;
   stop = end .stop;
   refusal = end .refusal;
 }
@@ -157,10 +172,10 @@ abbrev pub countFor : Chosen → List ℕ → CountReply
 countFor (C.Is e) s = countBy (countOf (slices e s))
 countFor C.Unknown s = countReply noSuchEntry 0 noRow
 
--- the numbers lent for a list of headers, with the headers from number k on
-abbrev pub listFor : Chosen → List ℕ → ℕ → List ℕ → List ℕ
-listFor (C.Is e) s k out = writtenFrom k (headersRead (slices e s)) out
-listFor C.Unknown s k out = out
+-- n numbers lent for a list of headers, with the headers from number k on, and zeros
+abbrev pub listFor : Chosen → List ℕ → (k n : ℕ) → List ℕ
+listFor (C.Is e) s k n = listOf (slices e s) k n
+listFor C.Unknown s k n = zeros n
 
 -- ---- option k
 

@@ -15,6 +15,11 @@ pub const REFUSED: usize = 2;
 
 pub const NO_SUCH_ENTRY: usize = 3;
 
+// What the number is that names the payload.
+pub const ETHER_TYPE: usize = 1;
+
+pub const IP_NUMBER: usize = 2;
+
 // An IP header with the range of its extensions.
 #[repr(C)]
 pub struct Net {
@@ -33,8 +38,9 @@ pub struct Packet {
     pub net: Net,
     pub transport: Header,
     pub payload: Range,
-    // the number that names the payload: an EtherType for stops 1 and 2, else an IP number
+    // the number that names the payload, and which it is, an EtherType or an IP number
     pub number: usize,
+    pub numbering: usize,
     pub stop: usize,
     pub refusal: Row,
 }

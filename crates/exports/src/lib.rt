@@ -2,6 +2,7 @@
 // any number of an entry. No bytes lent are written, only the numbers lent to `bhirkulom_headers`. `compare/lib build` makes the
 // archive, with crate `exports_by_number`.
 ghost use mathlib.Core.Path.{_≡_};
+ghost use lib.ListN.{length};
 ghost use Rattle.checksum.specs.Sum.{addSlice, answer, noZero};
 ghost use Rattle.tcp_options.specs.Options.{options, optionOf};
 ghost use Rattle.exports.specs.Handed.{
@@ -75,8 +76,8 @@ pub extern "C" fn bhirkulom_slice(frame: &[u8], entry: usize) -> Packet
     }
 }
 
-// The headers of a frame from number k on, three numbers each (kind, offset, length), as many as the lent numbers have room for; the
-// answer is the count. Of a refused frame the headers before the refusal are written; the answer is its refusal.
+// The headers of a frame from number k on, three numbers each (kind, offset, length), as many as the lent numbers have room for, and zeros
+// behind them; the answer is the count. Of a refused frame, and for a number that no entry has, there are zeros alone.
 #[no_mangle]
 pub extern "C" fn bhirkulom_headers(
     frame: &[u8],
@@ -85,11 +86,12 @@ pub extern "C" fn bhirkulom_headers(
     heads: &mut [usize],
 ) -> CountReply
     ensures answer { λ r. ⌜ r ≡ countFor (entryBy entry) (now (frame .entry)) ⌝ }
-    ensures listed { λ r. ⌜ now (heads .exit) ≡ listFor (entryBy entry) (now (frame .entry)) k (now (heads .entry)) ⌝ }
+    ensures listed { λ r. ⌜ now (heads .exit) ≡ listFor (entryBy entry) (now (frame .entry)) k (length (now (heads .entry))) ⌝ }
     ensures unwritten { λ r. ⌜ now (frame .exit) ≡ now (frame .entry) ⌝ }
 {
     let chosen = entry_by(entry);
     let Chosen::Is(known) = chosen else {
+        steps::clear(heads);
         return reply::no_count();
     };
     let counted = steps::headers(frame, known, k, heads);

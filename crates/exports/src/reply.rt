@@ -15,6 +15,7 @@ ghost use Rattle.exports.specs.Handed.{
   netBy,
   transportHeader,
   numberOf,
+  numberingOf,
   noRow,
   unread,
   noParts,
@@ -28,6 +29,8 @@ ghost use Rattle.exports.specs.Handed.{
   optionBy,
 };
 use crate::handed::CountReply;
+use crate::handed::ETHER_TYPE;
+use crate::handed::IP_NUMBER;
 use crate::handed::NO_MORE;
 use crate::handed::NO_SUCH_ENTRY;
 use crate::handed::Net;
@@ -120,6 +123,15 @@ fn number_of(number: Number) -> usize
     }
 }
 
+fn numbering(number: Number) -> usize
+    ensures { λ r. ⌜ r ≡ numberingOf number ⌝ }
+{
+    match number {
+        Number::Link(_) => ETHER_TYPE,
+        Number::Ip(_) => IP_NUMBER,
+    }
+}
+
 fn ranges(tags: [Header; TAG_LIMIT]) -> [Range; TAG_LIMIT]
     ensures { λ r. ⌜ r ≡ map rangeOf tags ⌝ }
 {
@@ -156,6 +168,7 @@ pub fn accepted_packet(sliced: SlicedPacket, net: Net, ending: Ending) -> Packet
         transport: transport_header(transport),
         payload,
         number: number_of(number),
+        numbering: numbering(number),
         stop: stop.number(),
         refusal: no_row(),
     }
@@ -175,6 +188,7 @@ fn partless(status: usize, refusal: Row) -> Packet
         transport: no_header(),
         payload: none,
         number: 0,
+        numbering: 0,
         stop: 0,
         refusal,
     }

@@ -5,11 +5,12 @@ use mathlib.Core.Path.{_≡_, refl, sym, ap, _∙_}
 use mathlib.Core.List.{List, [], _∷_, map}
 use lib.Dec.{eqb}
 use lib.ListN.{length, getD, drop}
+use Rattle.rules.specs.Numbers.{headerWords}
 use Rattle.rules.specs.Test.{pick}
 use Rattle.rules.specs.Walk.{Trace, HeaderAt, header, nth, is, no-more, headerOf, countOf, slices}
 use Rattle.rules.specs.Walk as W
 use Rattle.laws.specs.Walks.{nth-past}
-use Rattle.steps.specs.Lists.{headersRead, written, writtenFrom}
+use Rattle.steps.specs.Lists.{written, writtenFrom, headersListed, listOf}
 use Rattle.exports.specs.declared.Chosen.{Chosen}
 use Rattle.exports.specs.declared.Chosen.the-variants as C
 use Rattle.rules.specs.declared.place.Header.{Header}
@@ -30,9 +31,9 @@ written-here [] k h = absurd (omega arith)
 written-here (e ∷ hs) zero h = refl
 written-here (e ∷ hs) (suc k) h = written-here hs k (omega arith)
 
-here : (t : Trace HeaderAt) (k : ℕ) → k < countBy (countOf t) .count → headerReply there (headIn (writtenFrom k (headersRead t) room)) (countBy
+here : (t : Trace HeaderAt) (k : ℕ) → k < countBy (countOf t) .count → headerReply there (headIn (listOf t k headerWords)) (countBy
     (countOf t) .refusal) ≡ headerBy (headerOf t k)
-unfolding countOf headerOf headersRead writtenFrom
+unfolding countOf headerOf headersListed writtenFrom listOf
 here (W.accepted hs x) k h = written-here hs k h
 here (W.refused hs r) k h = absurd (omega arith)
 here W.unfinished k h = absurd (omega arith)
@@ -44,7 +45,7 @@ past (W.accepted hs x) k h = ap headerBy (sym (nth-past hs k h))
 past (W.refused hs r) k h = refl
 past W.unfinished k h = refl
 
-pub header-here : (e : Chosen) (s : List ℕ) (k : ℕ) {c : CountReply} {o : List ℕ} → c ≡ countFor e s → o ≡ listFor e s k room → k < c .count
+pub header-here : (e : Chosen) (s : List ℕ) (k : ℕ) {c : CountReply} {o : List ℕ} → c ≡ countFor e s → o ≡ listFor e s k headerWords → k < c .count
     → headerReply there (headIn o) (c .refusal) ≡ headerFor e s k
 header-here (C.Is e) s k a b h = rw (a, b) (here (slices e s) k (rw (← a) h))
 header-here C.Unknown s k a b h = let z : _≡_ {A = ℕ} _ 0 = ap (λ (x : CountReply). x .count) a in absurd (omega arith)

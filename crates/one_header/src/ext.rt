@@ -54,7 +54,8 @@ fn read_ext(w: &[u8], kind: ExtKind) -> ExtRead
 }
 
 pub fn ext_at(w: &[u8], kind: ExtKind, at: usize, source: RoomSource) -> ExtAt
-    ensures { λ r. ⌜ ((v : ℕ) → extAtOnPaper r ≡ placing (extSays (extKindOf kind) v (now (w .entry))) at source) ⌝ }
+    ensures answer { λ r. ⌜ ((v : ℕ) → extAtOnPaper r ≡ placing (extSays (extKindOf kind) v (now (w .entry))) at source) ⌝ }
+    ensures unwritten { λ r. ⌜ now (w .exit) ≡ now (w .entry) ⌝ }
 {
     let answer = read_ext(w, kind);
     let ExtRead::Whole(x) = answer else {

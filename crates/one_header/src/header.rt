@@ -194,7 +194,8 @@ fn transport_header(read: TransportAt, number: u8, have: usize, room: Room) -> H
 // The header of a kind at the begin of the bytes w, which stand at `at` and reach to their room's end. Where that room ends, `w` says,
 // and not `room`.
 pub fn header_at(w: &[u8], kind: Kind, at: usize, room: Room) -> HeaderRead
-    ensures { λ r. ⌜ headerReadOnPaper r at room ≡ readPart (now (w .entry)) kind at room ⌝ }
+    ensures answer { λ r. ⌜ headerReadOnPaper r at room ≡ readPart (now (w .entry)) kind at room ⌝ }
+    ensures unwritten { λ r. ⌜ now (w .exit) ≡ now (w .entry) ⌝ }
 {
     let source = room.source;
     let have = w.len();

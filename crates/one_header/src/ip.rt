@@ -75,7 +75,8 @@ fn set_room(x: IpHeader, have: usize, sets: RoomSource, source: RoomSource) -> I
 }
 
 pub fn ipv4_at(w: &[u8], at: usize, source: RoomSource) -> IpAt
-    ensures { λ r. ⌜ ((v : ℕ) → ipAtOnPaper r ≡ placing (over (λ x. setting x (length (now (w .entry))) S.Ipv4 source) (ipSays K.Ipv4 v (now (w .entry)))) at source) ⌝ }
+    ensures answer { λ r. ⌜ ((v : ℕ) → ipAtOnPaper r ≡ placing (over (λ x. setting x (length (now (w .entry))) S.Ipv4 source) (ipSays K.Ipv4 v (now (w .entry)))) at source) ⌝ }
+    ensures unwritten { λ r. ⌜ now (w .exit) ≡ now (w .entry) ⌝ }
 {
     let answer = headers::read_ipv4(w);
     let IpRead::Whole(x) = answer else {
@@ -85,7 +86,8 @@ pub fn ipv4_at(w: &[u8], at: usize, source: RoomSource) -> IpAt
 }
 
 pub fn ipv6_at(w: &[u8], at: usize, source: RoomSource) -> IpAt
-    ensures { λ r. ⌜ ((v : ℕ) → ipAtOnPaper r ≡ placing (over (λ x. setting x (length (now (w .entry))) S.Ipv6 source) (ipSays K.Ipv6 v (now (w .entry)))) at source) ⌝ }
+    ensures answer { λ r. ⌜ ((v : ℕ) → ipAtOnPaper r ≡ placing (over (λ x. setting x (length (now (w .entry))) S.Ipv6 source) (ipSays K.Ipv6 v (now (w .entry)))) at source) ⌝ }
+    ensures unwritten { λ r. ⌜ now (w .exit) ≡ now (w .entry) ⌝ }
 {
     let answer = headers::read_ipv6(w);
     let IpRead::Whole(x) = answer else {

@@ -26,7 +26,8 @@ pub enum LinkAt {
 }
 
 pub fn ethernet2_at(w: &[u8], at: usize, source: RoomSource) -> LinkAt
-    ensures { λ r. ⌜ ((v : ℕ) → linkAtOnPaper r ≡ placing (linkSays K.Ethernet2 v (now (w .entry))) at source) ⌝ }
+    ensures answer { λ r. ⌜ ((v : ℕ) → linkAtOnPaper r ≡ placing (linkSays K.Ethernet2 v (now (w .entry))) at source) ⌝ }
+    ensures unwritten { λ r. ⌜ now (w .exit) ≡ now (w .entry) ⌝ }
 {
     let answer = headers::read_ethernet2(w);
     let LinkRead::Whole(number) = answer else {
@@ -36,7 +37,8 @@ pub fn ethernet2_at(w: &[u8], at: usize, source: RoomSource) -> LinkAt
 }
 
 pub fn vlan_at(w: &[u8], at: usize, source: RoomSource) -> LinkAt
-    ensures { λ r. ⌜ ((v : ℕ) → linkAtOnPaper r ≡ placing (linkSays K.Vlan v (now (w .entry))) at source) ⌝ }
+    ensures answer { λ r. ⌜ ((v : ℕ) → linkAtOnPaper r ≡ placing (linkSays K.Vlan v (now (w .entry))) at source) ⌝ }
+    ensures unwritten { λ r. ⌜ now (w .exit) ≡ now (w .entry) ⌝ }
 {
     let answer = headers::read_vlan(w);
     let LinkRead::Whole(number) = answer else {

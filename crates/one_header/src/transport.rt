@@ -24,7 +24,8 @@ pub enum TransportAt {
 }
 
 pub fn udp_at(w: &[u8], at: usize, source: RoomSource) -> TransportAt
-    ensures { λ r. ⌜ ((v : ℕ) → transportAtOnPaper r ≡ placing (udpSays v (now (w .entry))) at source) ⌝ }
+    ensures answer { λ r. ⌜ ((v : ℕ) → transportAtOnPaper r ≡ placing (udpSays v (now (w .entry))) at source) ⌝ }
+    ensures unwritten { λ r. ⌜ now (w .exit) ≡ now (w .entry) ⌝ }
 {
     let answer = headers::read_udp(w);
     let TransportRead::Whole(x) = answer else {
@@ -34,7 +35,8 @@ pub fn udp_at(w: &[u8], at: usize, source: RoomSource) -> TransportAt
 }
 
 pub fn tcp_at(w: &[u8], at: usize, source: RoomSource) -> TransportAt
-    ensures { λ r. ⌜ ((v : ℕ) → transportAtOnPaper r ≡ placing (tcpSays v (now (w .entry))) at source) ⌝ }
+    ensures answer { λ r. ⌜ ((v : ℕ) → transportAtOnPaper r ≡ placing (tcpSays v (now (w .entry))) at source) ⌝ }
+    ensures unwritten { λ r. ⌜ now (w .exit) ≡ now (w .entry) ⌝ }
 {
     let answer = headers::read_tcp(w);
     let TransportRead::Whole(x) = answer else {

@@ -1,16 +1,18 @@
 -- Pieces of a text, one behind the other. Assumes nothing.
-use Prim.Native.Nat.{ℕ, suc, _+_, _-_, _≤_, _<_, min}
+use Prim.Native.Nat.{ℕ, zero, suc, _+_, _-_, _≤_, _<_, min}
 use mathlib.Core.Path.{_≡_, refl, sym, ap, _∙_}
 use mathlib.Core.List.{List, [], _∷_, _++_}
 use mathlib.Core.Bool.{Bool, true, false}
 use native.Mathlib.Omega.{arith}
-use native.Mathlib.Nat.{add-zero, add-suc, suc-add}
+use native.Mathlib.Nat.{add-zero, add-suc, suc-add, sub-zero, suc-sub-suc}
 use native.Mathlib.Numerals.{add-one}
 use lib.Dec.{leb}
-use lib.ListN.{length, take, set, getD, length-append}
+use lib.ListN.{length, take, set, getD, length-append, length-replicate}
 use lib.Seq.{sets, length-sets, set-out, append-snoc, take-suc, take-all}
-use borrow.Author.Tests.{leb-true, leb-false}
-use Rattle.printing.specs.Put.{put, reach, Wrote, Word}
+use borrow.Author.Tests.{leb-true, leb-false, le-leb, lt-leb}
+use Rattle.laws.specs.Zeros.{zeros}
+use Rattle.printing.specs.declared.Printed.the-variants.{Whole, Cut}
+use Rattle.printing.specs.Put.{printedIn, printedBy, Wrote, Word}
 
 -- ---- runs of stores
 
@@ -28,22 +30,22 @@ wrote-none o at = record { stored = refl; reached = omega arith }
 
 module _ {t u o o₁ o₂ : List ℕ} {at r₁ r₂ : ℕ} where
   pub wrote-then : Wrote t o at o₁ r₁ → Wrote u o₁ r₁ o₂ r₂ → Wrote (t ++ u) o at o₂ r₂
-  wrote-then a b = record { stored = b .stored ∙ go (leb (at + length t) (length o)) refl; reached = there }
+  wrote-then a b = record { stored = b .stored ∙ go (leb (at + length t) (length o + 1)) refl; reached = there }
     where
       same : length o₁ ≡ length o
       same = ap length (a .stored) ∙ length-sets o at t
 
-      there : r₂ ≡ at + min (length (t ++ u)) (length o - at)
+      there : r₂ ≡ at + min (length (t ++ u)) (length o + 1 - at)
       there = let p = a .reached in let q = b .reached in let l = length-append t u in let e = same in omega arith
 
-      go : (c : Bool) → leb (at + length t) (length o) ≡ c → sets o₁ r₁ u ≡ sets o at (t ++ u)
+      go : (c : Bool) → leb (at + length t) (length o + 1) ≡ c → sets o₁ r₁ u ≡ sets o at (t ++ u)
       go true e =
-          let h = leb-true (at + length t) (length o) e in
+          let h = leb-true (at + length t) (length o + 1) e in
           let p = a .reached in
           let z : r₁ ≡ at + length t = omega arith in
           rw (z, a .stored) (sym (sets-append t u o at))
       go false e =
-          let h = leb-false (at + length t) (length o) e in
+          let h = leb-false (at + length t) (length o + 1) e in
           let p = a .reached in
           let q = same in
           sets-out u o₁ r₁ (omega arith)
@@ -71,11 +73,27 @@ sets-behind : (x : ℕ) (t o : List ℕ) (at : ℕ) → sets (x ∷ o) (suc at) 
 sets-behind x [] o at = refl
 sets-behind x (b ∷ t) o at = sets-behind x t (set o at b) (suc at)
 
-sets-put : (t o : List ℕ) → sets o 0 t ≡ put t o
-sets-put [] [] = refl
-sets-put [] (x ∷ o) = refl
-sets-put (b ∷ t) [] = sets-out t [] 1 (omega arith)
-sets-put (b ∷ t) (x ∷ o) = sets-behind b t o 0 ∙ ap (λ (l : List ℕ). b ∷ l) (sets-put t o)
+sets-zeros : (t : List ℕ) (n : ℕ) → length t ≤ n → sets (zeros n) 0 t ≡ t ++ zeros (n - length t)
+sets-zeros [] n h = rw sub-zero refl
+sets-zeros (b ∷ t) zero h = absurd (omega arith)
+sets-zeros (b ∷ t) (suc n) h = rw suc-sub-suc (sets-behind b t (zeros n) 0 ∙ ap (λ (l : List ℕ). b ∷ l) (sets-zeros t n (omega arith)))
 
-pub wrote-all : {t o o′ : List ℕ} {r : ℕ} → Wrote t o 0 o′ r → (o′ ≡ put t o) × (r ≡ reach t o)
-wrote-all {t} {o} w = (w .stored ∙ sets-put t o, let p = w .reached in omega arith)
+-- the whole text t over n zeros: it fits where the next piece would begin inside, and not where that would begin behind the end
+module _ (t : List ℕ) (n : ℕ) {b o : List ℕ} {r : ℕ} (z : b ≡ zeros n) (w : Wrote t b 0 o r) where
+  zeroed : length b ≡ n
+  zeroed = ap length z ∙ length-replicate {A = ℕ} n 0
+
+  ended : (length o ≡ n) × (r ≡ min (length t) (n + 1))
+  ended = (wrote-length w ∙ zeroed, omega (arith, w .reached, zeroed))
+
+  pub printed-whole : r ≤ length o → (o ≡ printedIn t n) × (Whole r ≡ printedBy t n)
+  unfolding printedIn printedBy
+  printed-whole h =
+      let e = ended in
+      let f : length t ≤ n = omega (arith, e .0, e .1) in
+      let same : r ≡ length t = omega (arith, e .1) in
+      rw (le-leb (length t) n f) (w .stored ∙ ap (λ (l : List ℕ). sets l 0 t) z ∙ sets-zeros t n f, ap Whole same)
+
+  pub printed-cut : {o′ : List ℕ} → length o < r → o′ ≡ zeros (length o) → (o′ ≡ printedIn t n) × (Cut ≡ printedBy t n)
+  unfolding printedIn printedBy
+  printed-cut h c = let e = ended in rw (lt-leb (length t) n (omega (arith, e .0, e .1))) (c ∙ ap zeros (e .0), refl)

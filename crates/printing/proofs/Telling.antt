@@ -15,7 +15,7 @@ use Rattle.laws.specs.Gather.{Way, listed, gathered, gather, rest, rest-next, r
 use Rattle.laws.specs.Reads.{goes}
 use Rattle.steps.specs.declared.place.Step.{Step}
 use Rattle.steps.specs.declared.place.Step.the-variants as S
-use Rattle.steps.specs.Places.{on, last, refused as shut, not-a-place, stepOnPaper, leads, steps, stepSays}
+use Rattle.steps.specs.Places.{on, last, refused as shut, not-a-place, placeOnPaper, stepOnPaper, leads, steps, stepSays, same-place}
 use Rattle.printing.specs.Clash.{clash}
 use Rattle.printing.specs.Text.{headerLine, lineOf, headerLines, endingLines, text, textOf, Accepts, accepts}
 use Rattle.printing.specs.Put.{Wrote}
@@ -44,12 +44,12 @@ record Onward (d : PlaceRead) (len : ℕ) (f : Follow) : Type 0 where
   long : found .len ≡ len
   follows : found .follow ≡ f
 
-onward-next : (d : PlaceRead) {len : ℕ} {q : Place} → steps d ≡ on len q → Onward d len (next q)
+onward-next : (d : PlaceRead) {len : ℕ} {q : Place} → steps d ≡ on len (placeOnPaper q) → Onward d len (next q)
 onward-next (refuses r) e = clash (cc)
 onward-next (reads x) {len} {q} e = go (x .follow) refl e
   where
-    go : (f : Follow) → x .follow ≡ f → leads (x .len) f ≡ on len q → Onward (reads x) len (next q)
-    go (next p) h k = let z : p ≡ q = cc in record { found = x; whole = refl; long = cc; follows = h ∙ ap next z }
+    go : (f : Follow) → x .follow ≡ f → leads (x .len) f ≡ on len (placeOnPaper q) → Onward (reads x) len (next q)
+    go (next p) h k = record { found = x; whole = refl; long = cc; follows = h ∙ ap next (same-place k) }
     go (halt y) h k = clash (cc)
     go (wrong r) h k = clash (cc)
 

@@ -3,8 +3,7 @@ use Prim.Native.Nat.{ℕ, zero, suc, _+_, _-_, _*_, _≤_}
 use mathlib.Core.Path.{_≡_, refl, ap}
 use mathlib.Core.List.{List, _++_, append-assoc}
 use native.Mathlib.Omega.{arith}
-use lib.ListN.{length, take, drop, length-append}
-use lib.Seq.{take-all, take-append-seam}
+use lib.ListN.{length, length-append}
 use Rattle.rules.specs.declared.entry.Entry.{Entry}
 use Rattle.rules.specs.declared.entry.Entry.the-variants as E
 use Rattle.rules.specs.declared.place.Place.{Place}
@@ -16,7 +15,10 @@ use Rattle.laws.specs.Reads.{goes, parts}
 use Rattle.laws.specs.Openings.{opening-begins, never-halts}
 use Rattle.printing.specs.Clash.{clash}
 use Rattle.printing.specs.Text.{lineOf, headerLines, endingLines, text, textOf}
-use Rattle.printing.specs.Put.{put, reach}
+use Rattle.printing.specs.declared.Printed.{Printed}
+use Rattle.printing.specs.declared.Printed.the-variants.{Cut}
+use Rattle.printing.specs.Put.{printedBy}
+use Rattle.printing.specs.Told.{told-cut}
 use Rattle.printing.specs.Sizes.{SmallRow, ending-short, refused-short}
 use Rattle.printing.specs.Values.{frameLimit, Bytes, SmallFollow, refuses-small, SmallFound, reads-small}
 
@@ -84,12 +86,10 @@ text-fits e s b h = go (opening e s) refl
     go (halt x) q = absurd (never-halts e s q)
     go (wrong r) q = let z = refused-short (opening-small e s q) in omega (arith, z)
 
--- so what `print` promises of a buffer o of that size, left as o′ with r bytes written, is the whole text
-pub written-whole : (e : Entry) (s o : List ℕ) {o′ : List ℕ} {r : ℕ} → Bytes (byteAt s) → length s ≤ frameLimit → length o ≡ textLimit
-    → o′ ≡ put (textOf e s) o → r ≡ reach (textOf e s) o
-    → (r ≡ length (textOf e s)) × (take r o′ ≡ textOf e s)
-written-whole e s o {r = r} b h l p q =
-    let z = text-fits e s b h in
-    let t = textOf e s in
-    let n : r ≡ length t = omega arith in
-    (n, rw (n, p, take-all (length o) t (omega arith)) (take-append-seam t (drop (length t) o)))
+-- so `print` never tells that the text of such a frame is cut, where the buffer has n bytes
+pub never-cut : (e : Entry) (s : List ℕ) (n : ℕ) {r : Printed} → Bytes (byteAt s) → length s ≤ frameLimit → n ≡ textLimit
+    → r ≡ printedBy (textOf e s) n → r ≡ Cut → ⊥
+never-cut e s n b h l q i =
+    let z = told-cut (textOf e s) n q i in
+    let y = text-fits e s b h in
+    absurd (omega (arith, l, z, y))

@@ -3,6 +3,7 @@
 pub mod Text
 pub mod Put
 pub mod Clash
+pub mod Told
 pub mod Decimals
 pub mod Samples
 pub mod Sizes

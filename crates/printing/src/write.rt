@@ -1,6 +1,10 @@
 // Bytes, words and numbers written one behind the other. Each function takes the offset where it begins and answers the one
-// where the next begins; at the buffer's end nothing more is written, and nothing more is counted.
+// where the next begins. At the buffer's end nothing more is stored, and one byte more is counted: so an offset behind the end
+// says that the text does not fit.
+ghost use mathlib.Core.Path.{_≡_};
 ghost use mathlib.Core.List.{[], _∷_};
+ghost use lib.ListN.{length};
+ghost use Rattle.laws.specs.Zeros.{zeros};
 ghost use Rattle.printing.specs.Text.{decimal};
 ghost use Rattle.printing.specs.Put.{Wrote, Word};
 
@@ -11,11 +15,24 @@ pub const NEWLINE: u8 = 10;
 // The digit 0.
 const ZERO: u8 = 48;
 
+pub fn clear(out: &mut [u8])
+    ensures { λ _. ⌜ now (out .exit) ≡ zeros (length (now (out .entry))) ⌝ }
+{
+    let mut i: usize = 0;
+    while i < out.len() {
+        out[i] = 0;
+        i += 1;
+    }
+}
+
 pub fn push(out: &mut [u8], at: usize, byte: u8) -> usize
     ensures { λ r. ⌜ Wrote (byte ∷ []) (now (out .entry)) at (now (out .exit)) r ⌝ }
 {
     if at < out.len() {
         out[at] = byte;
+        return at + 1;
+    }
+    if at == out.len() {
         return at + 1;
     }
     at

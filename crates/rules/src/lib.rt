@@ -1,6 +1,5 @@
-// What every crate shares: the types of the answers, the numbers of document 01, bytes read as numbers; and
-// document 01's rules, written down once as definitions (specs/). Each function here promises its definition.
-pub mod bytes;
+// What every crate shares: the types of the answers, the numbers of document 01; and document 01's rules, written
+// down once as definitions (specs/). Each function here promises its definition.
 mod entry;
 pub mod ether_type;
 pub mod field;

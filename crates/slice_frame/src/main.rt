@@ -1,6 +1,7 @@
 // Reads one Ethernet frame from standard input, to the input's end, and prints its headers, its payload and why the walk
-// stopped, or its refusal (document 01, F12). An input of more than 65,536 bytes prints `too long`. Where a read fails,
-// what arrived until then is the frame.
+// stopped, or its refusal (document 01, F12). An input of more than 65,536 bytes prints `too long`. Where a read fails
+// nothing is printed, whatever arrived before it, and standard error says so. It says too where the answer can't be written.
+// A proved program has no exit status of its own: bin/slice gives 2 where there is no answer.
 ghost use Prim.Native.Nat.{_≤_};
 ghost use mathlib.Core.Path.{_≡_};
 ghost use lib.ListN.{length, take};
@@ -8,6 +9,8 @@ ghost use Rattle.rules.specs.declared.entry.Entry.the-variants.{Ethernet};
 ghost use Rattle.printing.specs.Text.{textOf};
 ghost use Rattle.printing.specs.Values.{frameLimit};
 ghost use Rattle.printing.specs.Fits.{textLimit};
+use input::Input;
+use printing::Printed;
 use rules::Entry;
 
 // One byte more than a frame may have, so that a longer input shows.
@@ -34,17 +37,32 @@ fn printed(frame: &[u8], out: &mut [u8; TEXT]) -> usize
     ensures counted { λ r. ⌜ r ≡ length (textOf Ethernet (now (frame .entry))) ⌝ }
     ensures whole { λ r. ⌜ take r (now (out .exit)) ≡ textOf Ethernet (now (frame .entry)) ⌝ }
 {
-    printing::print(frame, Entry::Ethernet, out)
+    let answer = printing::print(frame, Entry::Ethernet, out);
+    match answer {
+        Printed::Whole(len) => len,
+        // The text of no frame is cut.
+        Printed::Cut => 0,
+    }
+}
+
+fn answer(text: &[u8]) {
+    if !io::write_all(1, text) {
+        io::write_all(2, b"slice_frame: standard output can't be written\n");
+    }
 }
 
 fn main() {
     let mut frame = room();
-    let have = io::read_full(0, &mut frame);
+    let input = input::read(&mut frame);
+    let Input::Came(have) = input else {
+        io::write_all(2, b"slice_frame: standard input can't be read\n");
+        return;
+    };
     if have == ROOM {
-        io::write_all(1, b"too long\n");
+        answer(b"too long\n");
         return;
     }
     let mut out = text();
     let written = printed(&frame[..have], &mut out);
-    io::write_all(1, &out[..written]);
+    answer(&out[..written]);
 }

@@ -1,10 +1,10 @@
 -- The loop over the headers of a frame, and what it answers. Assumes nothing.
-use Prim.Native.Nat.{ℕ, _+_, _-_, _*_, _/_, _≤_, _<_}
+use Prim.Native.Nat.{ℕ, _+_, _-_, _*_, _/_, _≤_, _<_, min}
 use mathlib.Core.Path.{_≡_, refl, sym, ap, _∙_}
 use mathlib.Core.List.{List, [], _∷_, _++_, map, map-append, append-nil}
 use mathlib.Core.Bool.{Bool, true, false}
 use native.Mathlib.Omega.{arith}
-use lib.ListN.{length, getD, set, length-append, length-map}
+use lib.ListN.{length, getD, set, drop, length-append, length-map, length-drop}
 use lib.Seq.{append-snoc}
 use lib.Dec.{eqb}
 use Rattle.rules.specs.declared.entry.Entry.{Entry}
@@ -33,7 +33,10 @@ use Rattle.one_header.specs.declared.header.HeaderFound.{HeaderFound}
 use Rattle.one_header.specs.declared.header.HeaderRead.{HeaderRead}
 use Rattle.one_header.specs.declared.header.HeaderRead.the-variants as D
 use Rattle.one_header.specs.Header.{leftBy, foundOnPaper}
-use Rattle.steps.specs.Lists.{headersRead, writtenFrom}
+use Rattle.laws.specs.Zeros.{zeros}
+use Rattle.steps.specs.Lists.{headersRead, headersListed, writtenFrom, listOf}
+use Rattle.steps.specs.Kept.{kept, written-kept}
+use Rattle.steps.specs.Places.{opens, opens-there}
 use Rattle.steps.proofs.Step.{ReadAs, reading, sizes}
 use Rattle.steps.proofs.Written.{written-length, written-none, written-more, written-full, written-early, one-written}
 
@@ -54,9 +57,9 @@ gathered-all (refused hs r) = ap (λ (l : List HeaderAt). refused l r) (listed-a
 gathered-all unfinished = refl
 
 -- the walk of a frame that opens at p
-pub slices-from : (e : Entry) (s : List ℕ) {p : Place} → next p ≡ opening e s → slices e s ≡ trace s p
+pub slices-from : (e : Entry) (s : List ℕ) (p : Place) → opens (next p) ≡ opens (opening e s) → slices e s ≡ trace s p
 unfolding slices
-slices-from e s q = ap (onward s) (sym q)
+slices-from e s p q = ap (onward s) (sym (opens-there (opening e s) q))
 
 -- ---- the loop
 
@@ -74,9 +77,9 @@ one-over : (b : Bool) (n m : ℕ) → n ≤ m → pick b (n + 1) n ≤ m + 1
 one-over true n m h = omega arith
 one-over false n m h = omega arith
 
-pub going-first : (e : Entry) (s : List ℕ) (k : ℕ) (o : List ℕ) {p : Place} → next p ≡ opening e s → Going s k (trace s p) o (p .kind) (p .at) (p .room) 0 o
+pub going-first : (e : Entry) (s : List ℕ) (k : ℕ) (o : List ℕ) (p : Place) → opens (next p) ≡ opens (opening e s) → Going s k (trace s p) o (p .kind) (p .at) (p .room) 0 o
 unfolding opening start gather
-going-first e s k o {p} q = go e q
+going-first e s k o p q = go e (opens-there (opening e s) q)
   where
     from : (j : Kind) → next p ≡ next (start j s) → Going s k (trace s p) o (p .kind) (p .at) (p .room) 0 o
     from j q =
@@ -197,9 +200,9 @@ module _ {s : List ℕ} {k : ℕ} {walk : Trace HeaderAt} {o : List ℕ} {kind :
 
 -- ---- header k
 
-pub header-here : (k : ℕ) (t : Trace HeaderAt) {o : List ℕ} {n : ℕ} → is n ≡ countOf t → o ≡ writtenFrom k (headersRead t) (0 ∷ 0 ∷ 0 ∷ []) → k < n
+pub header-here : (k : ℕ) (t : Trace HeaderAt) {o : List ℕ} {n : ℕ} → is n ≡ countOf t → o ≡ listOf t k 3 → k < n
     → is (record { kind = getD o 0 0; at = getD o 1 0; len = getD o 2 0 }) ≡ headerOf t k
-unfolding headerOf countOf headersRead
+unfolding headerOf countOf headersListed listOf
 header-here k (accepted hs x) {n = n} e l h =
     let z : n ≡ length hs = cc in
     let y = length-map hs header in
@@ -218,3 +221,24 @@ unfolding headerOf countOf
 header-refused k (accepted hs x) e = cc
 header-refused k (refused hs q) {r = r} e = let z : r ≡ q = cc in ap refusal z
 header-refused k unfinished e = cc
+
+-- ---- the list
+
+-- of an accepted frame it is what was written, and zeros behind that
+pub list-accepted : (k : ℕ) (t : Trace HeaderAt) (o : List ℕ) {n j : ℕ} → is n ≡ countOf t → j ≡ 3 * min (n - k) (length o / 3)
+    → kept j (writtenFrom k (headersRead t) o) ≡ listOf t k (length o)
+unfolding countOf headersRead headersListed listOf writtenFrom
+list-accepted k (accepted hs x) o {n} {j} e m =
+    let z : n ≡ length hs = cc in
+    let y = length-map hs header in
+    let d = length-drop k (map header hs) in
+    written-kept (drop k (map header hs)) o j (omega (arith, m, z, y, d))
+list-accepted k (refused hs r) o e m = cc
+list-accepted k unfinished o e m = cc
+
+-- of a refused one it is zeros
+pub list-refused : (k : ℕ) (t : Trace HeaderAt) (m : ℕ) {o : List ℕ} {r : Row} → refusal r ≡ countOf t → o ≡ zeros m → o ≡ listOf t k m
+unfolding countOf headersListed listOf
+list-refused k (accepted hs x) m e l = cc
+list-refused k (refused hs q) m e l = l ∙ sym (written-none k _)
+list-refused k unfinished m e l = l ∙ sym (written-none k _)

@@ -5,6 +5,7 @@ mod place;
 
 pub use list::CountAnswer;
 pub use list::HeaderAnswer;
+pub use list::clear;
 pub use list::count;
 pub use list::header;
 pub use list::headers;

@@ -1,8 +1,16 @@
 // The headers of a frame as numbers, by number, and their count. All three are one walk, and it is finished before anything
 // is answered: a refused frame answers its refusal alone.
 ghost use mathlib.Core.Path.{_≡_};
+ghost use Prim.Native.Nat.{_-_, min};
+ghost use lib.ListN.{length};
 ghost use Rattle.rules.specs.Walk.{headerOf, countOf, slices};
-ghost use Rattle.steps.specs.Lists.{headerOnPaper, countOnPaper, headersRead, writtenFrom};
+ghost use Rattle.laws.specs.Zeros.{zeros};
+ghost use Rattle.steps.specs.Kept.{kept};
+ghost use Rattle.steps.specs.Lists.{
+  headerOnPaper,
+  countOnPaper,
+  listOf,
+};
 use crate::place::first;
 use crate::place::room_behind;
 use one_header::HeaderRead;
@@ -24,11 +32,44 @@ pub enum CountAnswer {
     Refused(Refusal),
 }
 
-// The headers of a frame from number k on, three numbers each (kind, offset, length), as many as the lent numbers have
-// room for; the answer is how many headers the frame has. Of a refused frame the headers before the refusal are written too.
+// The lent numbers from an index on become zeros: no header has the kind 0.
+fn clear_from(out: &mut [usize], from: usize)
+    ensures { λ _. ⌜ now (out .exit) ≡ kept from (now (out .entry)) ⌝ }
+{
+    let mut i = from;
+    while i < out.len() {
+        out[i] = 0;
+        i += 1;
+    }
+}
+
+// All the lent numbers become zeros.
+pub fn clear(out: &mut [usize])
+    ensures { λ _. ⌜ now (out .exit) ≡ zeros (length (now (out .entry))) ⌝ }
+{
+    clear_from(out, 0)
+}
+
+// How many headers from number k on are listed, where there is room for so many.
+fn listed(count: usize, k: usize, room: usize) -> usize
+    ensures { λ r. ⌜ r ≡ min (count - k) room ⌝ }
+{
+    if count < k {
+        return 0;
+    }
+    let behind = count - k;
+    if behind < room {
+        return behind;
+    }
+    room
+}
+
+// The headers of a frame from number k on, three numbers each (kind, offset, length), as many as the lent numbers have room for, and
+// zeros behind them; the answer is how many headers the frame has. Of a refused frame there are zeros alone: headers are written as the walk
+// comes to them, and cleared where it is refused.
 pub fn headers(s: &[u8], entry: Entry, k: usize, out: &mut [usize]) -> CountAnswer
     ensures answer { λ r. ⌜ countOnPaper r ≡ countOf (slices entry (now (s .entry))) ⌝ }
-    ensures listed { λ r. ⌜ now (out .exit) ≡ writtenFrom k (headersRead (slices entry (now (s .entry)))) (now (out .entry)) ⌝ }
+    ensures listed { λ r. ⌜ now (out .exit) ≡ listOf (slices entry (now (s .entry))) k (length (now (out .entry))) ⌝ }
     ensures unwritten { λ r. ⌜ now (s .exit) ≡ now (s .entry) ⌝ }
 {
     let begin = first(s, entry);
@@ -42,6 +83,7 @@ pub fn headers(s: &[u8], entry: Entry, k: usize, out: &mut [usize]) -> CountAnsw
         let read = header_at(&s[at..end], kind, at, room);
         match read {
             HeaderRead::Refused(refusal) => {
+                clear_from(out, 0);
                 return CountAnswer::Refused(refusal);
             }
             HeaderRead::Whole(x) => {
@@ -66,9 +108,11 @@ pub fn headers(s: &[u8], entry: Entry, k: usize, out: &mut [usize]) -> CountAnsw
                         at = past;
                     }
                     Turn::Stops(_) => {
+                        clear_from(out, HEADER_WORDS * listed(count, k, spare));
                         return CountAnswer::Is(count);
                     }
                     Turn::LateHopByHop => {
+                        clear_from(out, 0);
                         return CountAnswer::Refused(Refusal::HopByHopNotAtStart { offset: past });
                     }
                 }

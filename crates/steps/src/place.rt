@@ -4,7 +4,7 @@ ghost use mathlib.Core.List.{List};
 ghost use Prim.Native.Nat.{ℕ, _+_, _-_, _<_, _^_};
 ghost use Rattle.rules.specs.Place.{tagsWith, ipsWith, entered, next as nextPlace, start, opening};
 ghost use Rattle.one_header.specs.Header.{leftBy};
-ghost use Rattle.steps.specs.Places.{stepOnPaper, stepSays};
+ghost use Rattle.steps.specs.Places.{opens, stepOnPaper, stepSays};
 use one_header::HeaderFound;
 use one_header::HeaderRead;
 use one_header::header_at;
@@ -98,7 +98,7 @@ fn minus(a: usize, b: usize) -> usize
 
 // The place of a frame's first header.
 pub fn first(s: &[u8], entry: Entry) -> Place
-    ensures answer { λ r. ⌜ nextPlace r ≡ opening entry (now (s .entry)) ⌝ }
+    ensures answer { λ r. ⌜ opens (nextPlace r) ≡ opens (opening entry (now (s .entry))) ⌝ }
     ensures unwritten { λ r. ⌜ now (s .exit) ≡ now (s .entry) ⌝ }
 {
     let kind = first_kind(entry);

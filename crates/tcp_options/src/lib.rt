@@ -4,7 +4,7 @@ ghost use mathlib.Core.Path.{_≡_};
 ghost use lib.ListN.{drop};
 ghost use Rattle.tcp_options.specs.Options.{sound, read, options, answerBy, optionOf};
 ghost use Rattle.tcp_options.specs.Paper.{optionOnPaper};
-use rules::bytes::byte;
+use big_endian::byte;
 
 mod answer;
 mod kind;

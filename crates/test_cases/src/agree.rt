@@ -3,10 +3,11 @@ ghost use mathlib.Core.Path.{_≡_};
 ghost use mathlib.Core.Bool.{true};
 ghost use lib.ListN.{length};
 ghost use Rattle.printing.specs.Text.{textOf};
-ghost use Rattle.test_cases.specs.Shown.{shown};
+ghost use Rattle.test_cases.specs.Agreed.{Agrees};
+use printing::Printed;
 use rules::Entry;
 
-// No answer of a comparison is as long as this buffer; a text that does not fit is compared as far as it was written.
+// No answer of a comparison is as long as this buffer.
 const ROOM: usize = 4096;
 
 // A function of its own, so that a proof knows the buffer by its length alone.
@@ -16,10 +17,14 @@ fn room() -> [u8; ROOM]
     [0; ROOM]
 }
 
+// A text that does not fit agrees with no answer.
 pub fn agrees(frame: &[u8], entry: Entry, answer: &[u8]) -> bool
-    ensures { λ r. ⌜ (r ≡ true → shown (textOf entry (now (frame .entry))) ≡ now (answer .entry)) × (shown (textOf entry (now (frame .entry))) ≡ now (answer .entry) → r ≡ true) ⌝ }
+    ensures { λ r. ⌜ (r ≡ true → Agrees (textOf entry (now (frame .entry))) (now (answer .entry))) × (Agrees (textOf entry (now (frame .entry))) (now (answer .entry)) → r ≡ true) ⌝ }
 {
     let mut text = room();
-    let n = printing::print(frame, entry, &mut text);
-    check::same(&text[..n], answer)
+    let printed = printing::print(frame, entry, &mut text);
+    match printed {
+        Printed::Whole(n) => check::same(&text[..n], answer),
+        Printed::Cut => false,
+    }
 }

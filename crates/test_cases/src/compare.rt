@@ -4,12 +4,20 @@ use crate::tally::Tally;
 use crate::text::decode;
 use crate::text::lines;
 use checksum::Sum16BitWords;
+use printing::Printed;
 use rules::Entry;
 
 fn print_frame(frame: &[u8], entry: Entry) {
     let mut out = io::buffer();
-    let n = printing::print(frame, entry, &mut out);
-    io::write_all(1, &out[..n]);
+    let printed = printing::print(frame, entry, &mut out);
+    match printed {
+        Printed::Whole(n) => {
+            io::write_all(1, &out[..n]);
+        }
+        Printed::Cut => {
+            io::write_all(1, b"a text that is too long to be compared\n");
+        }
+    }
 }
 
 // What stands in the list and what is printed for the frame, for a reader who looks for the difference.

@@ -1,4 +1,6 @@
 // How many cases were compared and how many were the same, counted as they are compared.
+ghost use mathlib.Core.Path.{_≡_};
+ghost use Rattle.test_cases.specs.Tallied.{none, tallied};
 
 pub struct Tally {
     pub compared: u64,
@@ -6,7 +8,9 @@ pub struct Tally {
 }
 
 impl Tally {
-    pub fn new() -> Self {
+    pub fn new() -> Self
+        ensures { λ r. ⌜ r ≡ none ⌝ }
+    {
         Tally {
             compared: 0,
             same: 0,
@@ -14,7 +18,9 @@ impl Tally {
     }
 
     // Wrapping sums, because they ask for no proof that a list stays below 2 to the 64.
-    pub fn counted(self, same: bool) -> Self {
+    pub fn counted(self, same: bool) -> Self
+        ensures { λ r. ⌜ r ≡ tallied self same ⌝ }
+    {
         let compared = std::num::wrapping_add_u64(self.compared, 1);
         if same {
             return Tally {

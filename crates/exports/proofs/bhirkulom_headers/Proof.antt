@@ -14,13 +14,21 @@ enum-known-chosen c = search needs
 enum-told : tie.Need-enum-told
 enum-told c = search needs
 
+clear-requires : tie.Need-clear-requires
+clear-requires c κs = search needs
+
 no-count-requires : tie.Need-no-count-requires
 no-count-requires c κs = search needs
+
+same-length : tie.Need-same-length
+same-length c = search needs
 
 returns : tie.Need-returns
 returns c =
     let b3 = c .before .before .before in
-    (rw (← b3 .entry-by .ensures, c .before .enum-told .given .1) (c .no-count .ensures), (rw (← b3 .entry-by .ensures, c .before .enum-told .given .1) refl, refl))
+    let b5 = b3 .before .before in
+    let b7 = b5 .before .before in
+    (rw (← b7 .entry-by .ensures, b5 .enum-told .given .1) (c .no-count .ensures), (rw (← b7 .entry-by .ensures, b5 .enum-told .given .1) (b3 .clear .ensures), refl))
 
 headers-requires : tie.Need-headers-requires
 headers-requires c κs = search needs
@@ -31,8 +39,8 @@ enum-known-counted c = search needs
 counted-requires : tie.Need-counted-requires
 counted-requires c κs = search needs
 
-same-length : tie.Need-same-length
-same-length c = search needs
+same-length-2 : tie.Need-same-length-2
+same-length-2 c = search needs
 
 returns-2 : tie.Need-returns-2
 returns-2 c =
@@ -54,8 +62,8 @@ enum-known-counted-2 c = search needs
 uncounted-requires : tie.Need-uncounted-requires
 uncounted-requires c κs = search needs
 
-same-length-2 : tie.Need-same-length-2
-same-length-2 c = search needs
+same-length-3 : tie.Need-same-length-3
+same-length-3 c = search needs
 
 returns-3 : tie.Need-returns-3
 returns-3 c =
@@ -78,14 +86,16 @@ bhirkulom-headers-spec =
     entry-by-requires
     enum-known-chosen
     enum-told
+    clear-requires
     no-count-requires
+    same-length
     returns
     headers-requires
     enum-known-counted
     counted-requires
-    same-length
+    same-length-2
     returns-2
     enum-known-counted-2
     uncounted-requires
-    same-length-2
+    same-length-3
     returns-3)

@@ -8,7 +8,7 @@ add-slice-requires : tie.Need-add-slice-requires
 add-slice-requires c κs = search needs
 
 returns : tie.Need-returns
-returns c = (c .add-slice .ensures, refl)
+returns c = (c .add-slice .ensures .0, refl)
 
 pub bhirkulom-sum-add-spec : {M : Type 1} → statement M
 bhirkulom-sum-add-spec = tie.close (tie.spec add-slice-requires returns)

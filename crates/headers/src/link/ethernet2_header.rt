@@ -5,14 +5,15 @@ ghost use Rattle.headers.specs.Says.{linkOnPaper, linkSays};
 ghost use Rattle.rules.specs.declared.kind.Kind.the-variants as K;
 use crate::link::LinkRead;
 use crate::too_short;
+use big_endian::be16;
 use rules::EtherType;
 use rules::Kind;
-use rules::bytes::be16;
 use rules::field;
 use rules::length;
 
 pub fn read_ethernet2(w: &[u8]) -> LinkRead
-    ensures { λ r. ⌜ ((v : ℕ) → linkOnPaper r ≡ linkSays K.Ethernet2 v (now (w .entry))) ⌝ }
+    ensures answer { λ r. ⌜ ((v : ℕ) → linkOnPaper r ≡ linkSays K.Ethernet2 v (now (w .entry))) ⌝ }
+    ensures unwritten { λ r. ⌜ now (w .exit) ≡ now (w .entry) ⌝ }
 {
     let have = w.len();
     if have < length::ETHERNET2 {

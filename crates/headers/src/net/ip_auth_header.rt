@@ -6,16 +6,17 @@ ghost use Rattle.rules.specs.declared.kind.Kind.the-variants as K;
 use crate::net::ExtHeader;
 use crate::net::ExtRead;
 use crate::too_short;
+use big_endian::byte;
 use rules::Fault;
 use rules::Fragment;
 use rules::IpNumber;
 use rules::Kind;
-use rules::bytes::byte;
 use rules::field;
 use rules::length;
 
 pub fn read_auth(w: &[u8]) -> ExtRead
-    ensures { λ r. ⌜ ((v : ℕ) → extOnPaper r ≡ extSays K.Auth v (now (w .entry))) ⌝ }
+    ensures answer { λ r. ⌜ ((v : ℕ) → extOnPaper r ≡ extSays K.Auth v (now (w .entry))) ⌝ }
+    ensures unwritten { λ r. ⌜ now (w .exit) ≡ now (w .entry) ⌝ }
 {
     let have = w.len();
     if have < length::AUTH {

@@ -6,19 +6,20 @@ ghost use Rattle.rules.specs.declared.kind.Kind.the-variants as K;
 use crate::net::IpHeader;
 use crate::net::IpRead;
 use crate::too_short;
+use big_endian::be16;
+use big_endian::byte;
 use rules::Bound;
 use rules::Fault;
 use rules::Fragment;
 use rules::IpNumber;
 use rules::Kind;
 use rules::Layer;
-use rules::bytes::be16;
-use rules::bytes::byte;
 use rules::field;
 use rules::length;
 
 pub fn read_ipv4(w: &[u8]) -> IpRead
-    ensures { λ r. ⌜ ((v : ℕ) → ipOnPaper r ≡ ipSays K.Ipv4 v (now (w .entry))) ⌝ }
+    ensures answer { λ r. ⌜ ((v : ℕ) → ipOnPaper r ≡ ipSays K.Ipv4 v (now (w .entry))) ⌝ }
+    ensures unwritten { λ r. ⌜ now (w .exit) ≡ now (w .entry) ⌝ }
 {
     let have = w.len();
     if have < length::IPV4 {

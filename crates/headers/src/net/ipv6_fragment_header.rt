@@ -6,16 +6,17 @@ ghost use Rattle.rules.specs.declared.kind.Kind.the-variants as K;
 use crate::net::ExtHeader;
 use crate::net::ExtRead;
 use crate::too_short;
+use big_endian::be16;
+use big_endian::byte;
 use rules::Fragment;
 use rules::IpNumber;
 use rules::Kind;
-use rules::bytes::be16;
-use rules::bytes::byte;
 use rules::field;
 use rules::length;
 
 pub fn read_fragment(w: &[u8]) -> ExtRead
-    ensures { λ r. ⌜ ((v : ℕ) → extOnPaper r ≡ extSays K.Fragment v (now (w .entry))) ⌝ }
+    ensures answer { λ r. ⌜ ((v : ℕ) → extOnPaper r ≡ extSays K.Fragment v (now (w .entry))) ⌝ }
+    ensures unwritten { λ r. ⌜ now (w .exit) ≡ now (w .entry) ⌝ }
 {
     let have = w.len();
     if have < length::FRAGMENT {

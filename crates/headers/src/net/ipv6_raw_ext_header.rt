@@ -6,16 +6,17 @@ ghost use Rattle.headers.specs.Says.{extOnPaper, rawSays};
 use crate::net::ExtHeader;
 use crate::net::ExtRead;
 use crate::too_short;
+use big_endian::byte;
 use rules::Fragment;
 use rules::IpNumber;
 use rules::Kind;
-use rules::bytes::byte;
 use rules::field;
 use rules::length;
 
 // `kind` is only the name that a refusal gives the header.
 pub fn read_raw_ext(w: &[u8], kind: Kind) -> ExtRead
-    ensures { λ r. ⌜ ((v : ℕ) → extOnPaper r ≡ rawSays kind v (now (w .entry))) ⌝ }
+    ensures answer { λ r. ⌜ ((v : ℕ) → extOnPaper r ≡ rawSays kind v (now (w .entry))) ⌝ }
+    ensures unwritten { λ r. ⌜ now (w .exit) ≡ now (w .entry) ⌝ }
 {
     let have = w.len();
     if have < length::RAW_EXT {

@@ -5,14 +5,15 @@ ghost use Rattle.headers.specs.Says.{transportOnPaper, tcpSays};
 use crate::too_short;
 use crate::transport::TransportHeader;
 use crate::transport::TransportRead;
+use big_endian::byte;
 use rules::Fault;
 use rules::Kind;
-use rules::bytes::byte;
 use rules::field;
 use rules::length;
 
 pub fn read_tcp(w: &[u8]) -> TransportRead
-    ensures { λ r. ⌜ ((v : ℕ) → transportOnPaper r ≡ tcpSays v (now (w .entry))) ⌝ }
+    ensures answer { λ r. ⌜ ((v : ℕ) → transportOnPaper r ≡ tcpSays v (now (w .entry))) ⌝ }
+    ensures unwritten { λ r. ⌜ now (w .exit) ≡ now (w .entry) ⌝ }
 {
     let have = w.len();
     if have < length::TCP {

@@ -5,16 +5,17 @@ ghost use Rattle.headers.specs.Says.{transportOnPaper, udpSays};
 use crate::too_short;
 use crate::transport::TransportHeader;
 use crate::transport::TransportRead;
+use big_endian::be16;
 use rules::Bound;
 use rules::Fault;
 use rules::Kind;
 use rules::Layer;
-use rules::bytes::be16;
 use rules::field;
 use rules::length;
 
 pub fn read_udp(w: &[u8]) -> TransportRead
-    ensures { λ r. ⌜ ((v : ℕ) → transportOnPaper r ≡ udpSays v (now (w .entry))) ⌝ }
+    ensures answer { λ r. ⌜ ((v : ℕ) → transportOnPaper r ≡ udpSays v (now (w .entry))) ⌝ }
+    ensures unwritten { λ r. ⌜ now (w .exit) ≡ now (w .entry) ⌝ }
 {
     let have = w.len();
     if have < length::UDP {

@@ -3,6 +3,7 @@ use Rattle.printing.proofs.Telling.{Telling, telling-first, telling-all
 use Rattle.printing.proofs.Pieces.{wrote-length}
 use Rattle.printing.specs.Text.{text}
 use Rattle.rules.specs.Walk.{trace}
+use Rattle.steps.specs.Places.{opens-there}
 use mathlib.Core.Path.{_∙_}
 use Prim.Native.Nat.{_-_}
 use borrow.Author.Needs.{needs}
@@ -19,7 +20,7 @@ first-requires : tie.Need-first-requires Inv-loop μ-loop
 first-requires c κs = search needs
 
 loop-holds : tie.Need-loop-holds Inv-loop μ-loop
-loop-holds c = telling-first _ _ (c .first .ensures .0) _ (c .before .before .before .pre)
+loop-holds c = telling-first _ _ (opens-there _ (c .first .ensures .0)) _ (c .before .before .before .pre)
 
 next-requires : tie.Need-next-requires Inv-loop μ-loop
 next-requires c κs = search needs
@@ -74,7 +75,7 @@ returns c =
     let b12 = b11 .before in
     let b13 = b12 .before in
     let b14 = b13 .before in
-    telling-all _ _ (b14 .first .ensures .0)
+    telling-all _ _ (opens-there _ (b14 .first .ensures .0))
     (telling-last (b13 .loop .inv) _ (b12 .next .ensures .0) (b9 .step2 .given .1) (b11 .number .ensures) (b6 .header-line2 .ensures) (b2 .ending-lines .ensures))
 
 enum-told : tie.Need-enum-told Inv-loop μ-loop

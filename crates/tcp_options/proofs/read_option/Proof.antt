@@ -20,7 +20,7 @@ kind-of-requires : tie.Need-kind-of-requires
 kind-of-requires c κs = search needs
 
 returns-2 : tie.Need-returns-2
-returns-2 c = sym (ap (answerBy _) (read-end _ _ (c .before .before .before .if1 .left) (sym (c .before .before .byte .ensures) ∙ c .if2 .taken)))
+returns-2 c = sym (ap (answerBy _) (read-end _ _ (c .before .before .before .if1 .left) (sym (c .before .before .byte .ensures .0) ∙ c .if2 .taken)))
 
 returns-3 : tie.Need-returns-3
 returns-3 c =
@@ -29,7 +29,7 @@ returns-3 c =
     (read-noop
     (record {
       inside = c .before .before .before .before .if1 .left;
-      byte = c .before .before .before .byte .ensures;
+      byte = c .before .before .before .byte .ensures .0;
       names = c .before .before .kind-of .ensures;
       not0 = c .before .if2 .left;
     })
@@ -42,7 +42,7 @@ returns-4 c =
     (read-no-length
     (record {
       inside = c .before .before .before .before .before .if1 .left;
-      byte = c .before .before .before .before .byte .ensures;
+      byte = c .before .before .before .before .byte .ensures .0;
       names = c .before .before .before .kind-of .ensures;
       not0 = c .before .before .if2 .left;
     })
@@ -71,13 +71,13 @@ returns-5 c =
     (read-not-sound
     (record {
       inside = c .before .before .before .before .before .before .before .before .before .if1 .left;
-      byte = c .before .before .before .before .before .before .before .before .byte .ensures;
+      byte = c .before .before .before .before .before .before .before .before .byte .ensures .0;
       names = c .before .before .before .before .before .before .before .kind-of .ensures;
       not0 = c .before .before .before .before .before .before .if2 .left;
     })
     (c .before .before .before .before .before .if3 .left)
     (c .before .before .before .before .if4 .left)
-    (c .before .before .before .byte2 .ensures)
+    (c .before .before .before .byte2 .ensures .0)
     (sym (c .before .before .is-sound .ensures) ∙ not-true _ (c .if5 .taken))))
 
 returns-6 : tie.Need-returns-6
@@ -87,13 +87,13 @@ returns-6 c =
     (read-wrong
     (record {
       inside = c .before .before .before .before .before .before .before .before .before .before .if1 .left;
-      byte = c .before .before .before .before .before .before .before .before .before .byte .ensures;
+      byte = c .before .before .before .before .before .before .before .before .before .byte .ensures .0;
       names = c .before .before .before .before .before .before .before .before .kind-of .ensures;
       not0 = c .before .before .before .before .before .before .before .if2 .left;
     })
     (c .before .before .before .before .before .before .if3 .left)
     (c .before .before .before .before .before .if4 .left)
-    (c .before .before .before .before .byte2 .ensures)
+    (c .before .before .before .before .byte2 .ensures .0)
     (sym (c .before .before .before .is-sound .ensures) ∙ not-false _ (c .before .if5 .left))
     (sym (c .before .before .has-size .ensures) ∙ not-true _ (c .if6 .taken))))
 
@@ -104,13 +104,13 @@ returns-7 c =
     (read-right
     (record {
       inside = c .before .before .before .before .before .before .before .before .before .before .if1 .left;
-      byte = c .before .before .before .before .before .before .before .before .before .byte .ensures;
+      byte = c .before .before .before .before .before .before .before .before .before .byte .ensures .0;
       names = c .before .before .before .before .before .before .before .before .kind-of .ensures;
       not0 = c .before .before .before .before .before .before .before .if2 .left;
     })
     (c .before .before .before .before .before .before .if3 .left)
     (c .before .before .before .before .before .if4 .left)
-    (c .before .before .before .before .byte2 .ensures)
+    (c .before .before .before .before .byte2 .ensures .0)
     (sym (c .before .before .before .is-sound .ensures) ∙ not-false _ (c .before .if5 .left))
     (sym (c .before .before .has-size .ensures) ∙ not-false _ (c .if6 .left))))
 

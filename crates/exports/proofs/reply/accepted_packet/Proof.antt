@@ -15,6 +15,9 @@ transport-header-requires c κs = search needs
 number-of-requires : tie.Need-number-of-requires
 number-of-requires c κs = search needs
 
+numbering-requires : tie.Need-numbering-requires
+numbering-requires c κs = search needs
+
 number-requires : tie.Need-number-requires
 number-requires c κs = search needs
 
@@ -27,7 +30,16 @@ returns c =
     let b3 = b2 .before in
     let b4 = b3 .before in
     let b5 = b4 .before in
-    rw (b5 .link-header .ensures, b4 .ranges .ensures, b3 .transport-header .ensures, b2 .number-of .ensures, c .before .number .ensures, c .no-row .ensures)
+    let b6 = b5 .before in
+    rw (
+      b6 .link-header .ensures,
+      b5 .ranges .ensures,
+      b4 .transport-header .ensures,
+      b3 .number-of .ensures,
+      b2 .numbering .ensures,
+      c .before .number .ensures,
+      c .no-row .ensures,
+    )
 
 pub accepted-packet-spec : {M : Type 1} → statement M
 accepted-packet-spec =
@@ -37,6 +49,7 @@ accepted-packet-spec =
     ranges-requires
     transport-header-requires
     number-of-requires
+    numbering-requires
     number-requires
     no-row-requires
     returns)

@@ -1,7 +1,7 @@
 -- `link::ethernet2_at` meets its contract. Assumes nothing.
 use Rattle.one_header.specs.At.{whole-at, refused-at}
 use Rattle.headers.specs.Says.{linkOnPaper}
-use mathlib.Core.Path.{ap}
+use mathlib.Core.Path.{ap, refl}
 use borrow.Author.Needs.{needs}
 use Rattle.one_header.proofs.link.ethernet2_at.Statement.{statement}
 use Rattle.one_header.proofs.link.ethernet2_at.Tie as tie
@@ -19,16 +19,20 @@ refuse-link-requires : tie.Need-refuse-link-requires
 refuse-link-requires c κs = search needs
 
 returns : tie.Need-returns
-returns c =
-    let b3 = c .before .before .before in
-    let b5 = b3 .before .before in
-    λ v. let z = ap linkOnPaper (c .before .enum-told .given .1) in refused-at (b5 .args .at) (b5 .args .source) (b3 .read-ethernet2 .ensures v) z (c .refuse-link .ensures _ z)
+returns c = (
+  let b3 = c .before .before .before in
+      let b5 = b3 .before .before in
+      λ v. let z = ap linkOnPaper (c .before .enum-told .given .1) in refused-at (b5 .args .at) (b5 .args .source) (b3 .read-ethernet2 .ensures .0 v) z (c .refuse-link .ensures _ z),
+  refl,
+)
 
 returns-2 : tie.Need-returns-2
-returns-2 c =
-    let b3 = c .before .before .before in
-    let b5 = b3 .before .before in
-    λ v. whole-at (b5 .args .at) (b5 .args .source) (b3 .read-ethernet2 .ensures v) (ap linkOnPaper (c .before .answer .given .1))
+returns-2 c = (
+  let b3 = c .before .before .before in
+      let b5 = b3 .before .before in
+      λ v. whole-at (b5 .args .at) (b5 .args .source) (b3 .read-ethernet2 .ensures .0 v) (ap linkOnPaper (c .before .answer .given .1)),
+  refl,
+)
 
 pub ethernet2-at-spec : {M : Type 1} → statement M
 ethernet2-at-spec =

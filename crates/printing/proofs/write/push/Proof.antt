@@ -19,7 +19,13 @@ returns : tie.Need-returns
 returns c = search needs
 
 returns-2 : tie.Need-returns-2
-returns-2 c = record { stored = sym (set-out _ _ _ (c .if1 .left)); reached = omega arith }
+returns-2 c = record { stored = sym (set-out _ _ _ (c .before .if1 .left)); reached = omega arith }
+
+add-result-2 : tie.Need-add-result-2
+add-result-2 c = omega (arith, c .before .before .good .0 .1)
+
+returns-3 : tie.Need-returns-3
+returns-3 c = record { stored = sym (set-out _ _ _ (c .before .if1 .left)); reached = omega arith }
 
 pub push-spec : {M : Type 1} → statement M
-push-spec = tie.close (tie.spec slice-write-out add-result same-length returns returns-2)
+push-spec = tie.close (tie.spec slice-write-out add-result same-length returns add-result-2 returns-2 returns-3)

@@ -36,7 +36,7 @@ returns-2 c =
     let b3 = c .before .before .before in
     let b5 = b3 .before .before in
     let b8 = b5 .before .before .before in
-    stuck (auth-short (begun _ _ _ _ _ _ (b8 .pre .0) (b8 .pre .1)) (b5 .before .opens-auth .ensures) (b5 .if1 .left) (b3 .ext-at .ensures)
+    stuck (auth-short (begun _ _ _ _ _ _ (b8 .pre .0) (b8 .pre .1)) (b5 .before .opens-auth .ensures) (b5 .if1 .left) (b3 .ext-at .ensures .0)
     (ap extAtOnPaper (c .before .read .given .1)))
 
 enum-known-read-2 : tie.Need-enum-known-read-2
@@ -50,7 +50,7 @@ add-at c =
     let b10 = b7 .before .before .before in
     let a = b10 .args in
     let w = begun (a .s .now) (a .begin) (a .from) (a .end) (a .source) (a .marked) (b10 .pre .0) (b10 .pre .1) in
-    let y = auth-in w (b7 .before .opens-auth .ensures) (b7 .if1 .left) (b5 .ext-at .ensures) (ap extAtOnPaper (b3 .read2 .given .1)) in
+    let y = auth-in w (b7 .before .opens-auth .ensures) (b7 .if1 .left) (b5 .ext-at .ensures .0) (ap extAtOnPaper (b3 .read2 .given .1)) in
     omega (arith, y, b10 .pre .1)
 
 marks-requires : tie.Need-marks-requires
@@ -62,7 +62,7 @@ returns-3 c =
     let b6 = b4 .before .before in
     let b8 = b6 .before .before in
     let b11 = b8 .before .before .before in
-    went (auth-done (begun _ _ _ _ _ _ (b11 .pre .0) (b11 .pre .1)) (b8 .before .opens-auth .ensures) (b8 .if1 .left) (b6 .ext-at .ensures)
+    went (auth-done (begun _ _ _ _ _ _ (b11 .pre .0) (b11 .pre .1)) (b8 .before .opens-auth .ensures) (b8 .if1 .left) (b6 .ext-at .ensures .0)
     (ap extAtOnPaper (b4 .read2 .given .1)) (c .marks .ensures))
 
 pub ipv4-exts-slice-spec : {M : Type 1} → statement M

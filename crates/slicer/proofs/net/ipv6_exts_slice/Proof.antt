@@ -45,7 +45,7 @@ returns c =
     let b6 = b3 .before .before .before in
     let b8 = b6 .before .before in
     let b9 = b8 .before in
-    stuck (along-short (b9 .loop .inv) _ (b8 .ext-turn .ensures) _ (b6 .turn .given .1) (b3 .ext-at .ensures) (ap extAtOnPaper (c .before .read .given .1)))
+    stuck (along-short (b9 .loop .inv) _ (b8 .ext-turn .ensures) _ (b6 .turn .given .1) (b3 .ext-at .ensures .0) (ap extAtOnPaper (c .before .read .given .1)))
 
 enum-known-read-2 : tie.Need-enum-known-read-2 Inv-loop μ-loop
 enum-known-read-2 c = search needs
@@ -57,7 +57,7 @@ add-at c =
     let b8 = b5 .before .before .before in
     let b10 = b8 .before .before in
     let b11 = b10 .before in
-    let z = along-ahead (b11 .loop .inv) _ (b10 .ext-turn .ensures) _ (b8 .turn .given .1) (b5 .ext-at .ensures) (ap extAtOnPaper
+    let z = along-ahead (b11 .loop .inv) _ (b10 .ext-turn .ensures) _ (b8 .turn .given .1) (b5 .ext-at .ensures .0) (ap extAtOnPaper
     (b3 .read2 .given .1)) in omega (arith, z .1, b11 .loop .inv .room)
 
 marks-requires : tie.Need-marks-requires Inv-loop μ-loop
@@ -70,7 +70,7 @@ loop-less c =
     let b9 = b6 .before .before .before in
     let b11 = b9 .before .before in
     let b12 = b11 .before in
-    let z = along-ahead (b12 .loop .inv) _ (b11 .ext-turn .ensures) _ (b9 .turn .given .1) (b6 .ext-at .ensures) (ap extAtOnPaper (b4 .read2 .given .1)) in omega (arith, z .0, z .1)
+    let z = along-ahead (b12 .loop .inv) _ (b11 .ext-turn .ensures) _ (b9 .turn .given .1) (b6 .ext-at .ensures .0) (ap extAtOnPaper (b4 .read2 .given .1)) in omega (arith, z .0, z .1)
 
 loop-again : tie.Need-loop-again Inv-loop μ-loop
 loop-again c =
@@ -79,7 +79,7 @@ loop-again c =
     let b9 = b6 .before .before .before in
     let b11 = b9 .before .before in
     let b12 = b11 .before in
-    along-on (b12 .loop .inv) _ (b11 .ext-turn .ensures) _ (b9 .turn .given .1) (b6 .ext-at .ensures) (ap extAtOnPaper (b4 .read2 .given .1)) (c .marks .ensures)
+    along-on (b12 .loop .inv) _ (b11 .ext-turn .ensures) _ (b9 .turn .given .1) (b6 .ext-at .ensures .0) (ap extAtOnPaper (b4 .read2 .given .1)) (c .marks .ensures)
 
 enum-told : tie.Need-enum-told Inv-loop μ-loop
 enum-told c = search needs

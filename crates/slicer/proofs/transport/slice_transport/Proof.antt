@@ -47,7 +47,7 @@ opened-requires c κs =
     let b5 = b3 .before .before in
     let b7 = b5 .before .before in
     let b9 = b7 .before .before in
-    let z = udp-in _ _ _ _ _ _ _ (b7 .transport-turn .ensures) (b9 .pre .0) (b9 .pre .1) (b5 .enum-told .given .1) (b3 .udp-at .ensures)
+    let z = udp-in _ _ _ _ _ _ _ (b7 .transport-turn .ensures) (b9 .pre .0) (b9 .pre .1) (b5 .enum-told .given .1) (b3 .udp-at .ensures .0)
     (ap transportAtOnPaper (c .before .read2 .given .1)) in (z .0, omega (arith, z .1, b9 .pre .1))
 
 enum-told-2 : tie.Need-enum-told-2
@@ -77,7 +77,7 @@ opened-requires-2 c κs =
     let b5 = b3 .before .before in
     let b7 = b5 .before .before in
     let b9 = b7 .before .before in
-    let z = tcp-in _ _ _ _ _ _ _ (b7 .transport-turn .ensures) (b9 .pre .0) (b9 .pre .1) (b5 .enum-told2 .given .1) (b3 .tcp-at .ensures)
+    let z = tcp-in _ _ _ _ _ _ _ (b7 .transport-turn .ensures) (b9 .pre .0) (b9 .pre .1) (b5 .enum-told2 .given .1) (b3 .tcp-at .ensures .0)
     (ap transportAtOnPaper (c .before .read4 .given .1)) in (z .0, omega (arith, z .1, b9 .pre .1))
 
 returns : tie.Need-returns
@@ -93,7 +93,7 @@ returns-2 c =
     let b5 = b3 .before .before in
     let b7 = b5 .before .before in
     let b9 = b7 .before .before in
-    stuck (udp-short _ _ _ _ _ _ _ (b7 .transport-turn .ensures) (b9 .pre .0) (b9 .pre .1) (b5 .enum-told .given .1) (b3 .udp-at .ensures)
+    stuck (udp-short _ _ _ _ _ _ _ (b7 .transport-turn .ensures) (b9 .pre .0) (b9 .pre .1) (b5 .enum-told .given .1) (b3 .udp-at .ensures .0)
     (ap transportAtOnPaper (c .before .read .given .1)))
 
 returns-3 : tie.Need-returns-3
@@ -103,7 +103,7 @@ returns-3 c =
     let b6 = b4 .before .before in
     let b8 = b6 .before .before in
     let b10 = b8 .before .before in
-    went (λ f k t i n. udp-on _ _ _ _ _ _ _ (b8 .transport-turn .ensures) (b10 .pre .0) (b10 .pre .1) (b6 .enum-told .given .1) (b4 .udp-at .ensures)
+    went (λ f k t i n. udp-on _ _ _ _ _ _ _ (b8 .transport-turn .ensures) (b10 .pre .0) (b10 .pre .1) (b6 .enum-told .given .1) (b4 .udp-at .ensures .0)
     (ap transportAtOnPaper (b2 .read2 .given .1)) f k t i ∙ sym (ap (λ (x : TransportFound). acceptedBy (withTransport f (x .transport))
     (endingOnPaper (x .ending))) (c .opened .ensures)))
 
@@ -113,7 +113,7 @@ returns-4 c =
     let b5 = b3 .before .before in
     let b7 = b5 .before .before in
     let b9 = b7 .before .before in
-    stuck (tcp-short _ _ _ _ _ _ _ (b7 .transport-turn .ensures) (b9 .pre .0) (b9 .pre .1) (b5 .enum-told2 .given .1) (b3 .tcp-at .ensures)
+    stuck (tcp-short _ _ _ _ _ _ _ (b7 .transport-turn .ensures) (b9 .pre .0) (b9 .pre .1) (b5 .enum-told2 .given .1) (b3 .tcp-at .ensures .0)
     (ap transportAtOnPaper (c .before .read3 .given .1)))
 
 returns-5 : tie.Need-returns-5
@@ -123,7 +123,7 @@ returns-5 c =
     let b6 = b4 .before .before in
     let b8 = b6 .before .before in
     let b10 = b8 .before .before in
-    went (λ f k t i n. tcp-on _ _ _ _ _ _ _ (b8 .transport-turn .ensures) (b10 .pre .0) (b10 .pre .1) (b6 .enum-told2 .given .1) (b4 .tcp-at .ensures)
+    went (λ f k t i n. tcp-on _ _ _ _ _ _ _ (b8 .transport-turn .ensures) (b10 .pre .0) (b10 .pre .1) (b6 .enum-told2 .given .1) (b4 .tcp-at .ensures .0)
     (ap transportAtOnPaper (b2 .read4 .given .1)) f k t i ∙ sym (ap (λ (x : TransportFound). acceptedBy (withTransport f (x .transport))
     (endingOnPaper (x .ending))) (c .opened2 .ensures)))
 

@@ -1,6 +1,7 @@
 -- `place::first` meets its contract. Assumes nothing.
 use Rattle.rules.specs.Place.{start}
-use mathlib.Core.Path.{refl}
+use mathlib.Core.Path.{refl, ap}
+use Rattle.steps.specs.Places.{opens}
 use borrow.Author.Needs.{needs}
 use Rattle.steps.proofs.place.first.Statement.{statement}
 use Rattle.steps.proofs.place.first.Tie as tie
@@ -16,7 +17,7 @@ ips-with-requires c κs = search needs
 
 returns : tie.Need-returns
 unfolding start
-returns c = (rw (c .before .tags-with .ensures, c .ips-with .ensures) (c .before .before .first-kind .ensures _), refl)
+returns c = (rw (c .before .tags-with .ensures, c .ips-with .ensures) (ap opens (c .before .before .first-kind .ensures _)), refl)
 
 pub first-spec : {M : Type 1} → statement M
 first-spec = tie.close (tie.spec first-kind-requires tags-with-requires ips-with-requires returns)

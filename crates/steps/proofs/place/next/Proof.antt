@@ -70,7 +70,7 @@ add-past c =
     let b4 = b2 .before .before in
     let b6 = b4 .before .before in
     let b11 = b6 .before .before .before .before .before in
-    let z = sizes _ (place-here b6 .inside) (b4 .header-at .ensures) (b2 .read2 .given .1) in omega (arith, z, b11 .if1 .left)
+    let z = sizes _ (place-here b6 .inside) (b4 .header-at .ensures .0) (b2 .read2 .given .1) in omega (arith, z, b11 .if1 .left)
 
 enum-known-turn : tie.Need-enum-known-turn
 enum-known-turn c = search needs
@@ -82,7 +82,7 @@ room-behind-requires c κs =
     let b9 = b7 .before .before in
     let b11 = b9 .before .before in
     let b14 = b11 .before .before .before in
-    let z = sizes _ (place-here b9 .inside) (b7 .header-at .ensures) (b5 .read2 .given .1) in
+    let z = sizes _ (place-here b9 .inside) (b7 .header-at .ensures .0) (b5 .read2 .given .1) in
     omega (arith, z, b14 .if1 .left, b11 .if3 .left, b9 .if4 .left)
 
 enum-known-turn-2 : tie.Need-enum-known-turn-2
@@ -98,7 +98,7 @@ returns-5 : tie.Need-returns-5
 returns-5 c =
     let b3 = c .before .before .before in
     let b5 = b3 .before .before in
-    (step-read (place-here b5) (b3 .header-at .ensures) (c .before .read .given .1), refl)
+    (step-read (place-here b5) (b3 .header-at .ensures .0) (c .before .read .given .1), refl)
 
 returns-6 : tie.Need-returns-6
 unfolding follow
@@ -107,7 +107,7 @@ returns-6 c =
     let b6 = b2 .before .before .before .before in
     let b8 = b6 .before .before in
     let b10 = b8 .before .before in
-    (rw (c .room-behind .ensures) (step-turn (place-here b10) (b8 .header-at .ensures) (b6 .read2 .given .1) (b2 .turn .given .1)), refl)
+    (rw (c .room-behind .ensures) (step-turn (place-here b10) (b8 .header-at .ensures .0) (b6 .read2 .given .1) (b2 .turn .given .1)), refl)
 
 returns-7 : tie.Need-returns-7
 unfolding follow
@@ -119,7 +119,7 @@ returns-7 c =
     let b18 = b10 .before .before .before .before .before .before .before .before in
     let x = b6 .read2 .given .0 .0 in (
       rw (c .minus .ensures, payload-len (b18 .args .place .at) (x .to) (x .len))
-          (step-turn (place-here b10) (b8 .header-at .ensures) (b6 .read2 .given .1) (b2 .turn2 .given .1)),
+          (step-turn (place-here b10) (b8 .header-at .ensures .0) (b6 .read2 .given .1) (b2 .turn2 .given .1)),
       refl,
     )
 
@@ -129,7 +129,7 @@ returns-8 c =
     let b4 = c .before .before .before .before in
     let b6 = b4 .before .before in
     let b8 = b6 .before .before in
-    (step-turn (place-here b8) (b6 .header-at .ensures) (b4 .read2 .given .1) (c .enum-told .given .1), refl)
+    (step-turn (place-here b8) (b6 .header-at .ensures .0) (b4 .read2 .given .1) (c .enum-told .given .1), refl)
 
 pub next-spec : {M : Type 1} → statement M
 next-spec =

@@ -13,7 +13,7 @@ too-short-requires c κs = search needs
 
 returns : tie.Need-returns
 unfolding says testsBy seenBy
-returns c = λ v. judged (off (beyond (c .before .if1 .taken)) (c .too-short .ensures))
+returns c = (λ v. judged (off (beyond (c .before .if1 .taken)) (c .too-short .ensures)), refl)
 
 byte-requires : tie.Need-byte-requires
 byte-requires c κs = search needs
@@ -23,7 +23,7 @@ cast-words c = search needs
 
 returns-2 : tie.Need-returns-2
 unfolding says testsBy seenBy
-returns-2 c = λ v. simp (← c .before .byte .ensures) (judged (on (c .before .before .if1 .left) (off (omega arith) (refl))))
+returns-2 c = (λ v. simp (← c .before .byte .ensures .0) (judged (on (c .before .before .if1 .left) (off (omega arith) (refl)))), refl)
 
 add-len : tie.Need-add-len
 add-len c = search needs
@@ -36,20 +36,24 @@ too-short-requires-2 c κs = search needs
 
 returns-3 : tie.Need-returns-3
 unfolding says testsBy seenBy
-returns-3 c =
-    let b3 = c .before .before .before in
-    let b4 = b3 .before in
-    λ v. simp (← b3 .byte .ensures) (judged (on (b4 .if1 .left) (on (omega arith) (off (beyond (c .before .if3 .taken)) (c .too-short2 .ensures)))))
+returns-3 c = (
+  let b3 = c .before .before .before in
+      let b4 = b3 .before in
+      λ v. simp (← b3 .byte .ensures .0) (judged (on (b4 .if1 .left) (on (omega arith) (off (beyond (c .before .if3 .taken)) (c .too-short2 .ensures))))),
+  refl,
+)
 
 byte-requires-2 : tie.Need-byte-requires-2
 byte-requires-2 c κs = search needs
 
 returns-4 : tie.Need-returns-4
 unfolding says testsBy seenBy
-returns-4 c =
-    let b3 = c .before .before .before in
-    let b4 = b3 .before in
-    λ v. simp (← b3 .byte .ensures, ← c .byte2 .ensures) (judged (on (b4 .if1 .left) (on (omega arith) (on (c .before .if3 .left) (done (refl))))))
+returns-4 c = (
+  let b3 = c .before .before .before in
+      let b4 = b3 .before in
+      λ v. simp (← b3 .byte .ensures .0, ← c .byte2 .ensures .0) (judged (on (b4 .if1 .left) (on (omega arith) (on (c .before .if3 .left) (done (refl)))))),
+  refl,
+)
 
 pub read-auth-spec : {M : Type 1} → statement M
 read-auth-spec =

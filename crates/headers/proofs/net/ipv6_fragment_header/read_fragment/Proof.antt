@@ -13,7 +13,7 @@ too-short-requires c κs = search needs
 
 returns : tie.Need-returns
 unfolding says testsBy seenBy
-returns c = λ v. judged (off (beyond (c .before .if1 .taken)) (c .too-short .ensures))
+returns c = (λ v. judged (off (beyond (c .before .if1 .taken)) (c .too-short .ensures)), refl)
 
 be16-requires : tie.Need-be16-requires
 be16-requires c κs = search needs
@@ -26,7 +26,7 @@ byte-requires c κs = search needs
 
 returns-2 : tie.Need-returns-2
 unfolding says testsBy seenBy
-returns-2 c = λ v. simp (← c .before .before .be16 .ensures, ← c .before .by .ensures, ← c .byte .ensures) (judged (on (c .before .before .before .if1 .left) (done (refl))))
+returns-2 c = (λ v. simp (← c .before .before .be16 .ensures .0, ← c .before .by .ensures, ← c .byte .ensures .0) (judged (on (c .before .before .before .if1 .left) (done (refl)))), refl)
 
 pub read-fragment-spec : {M : Type 1} → statement M
 read-fragment-spec =

@@ -13,7 +13,7 @@ too-short-requires c κs = search needs
 
 returns : tie.Need-returns
 unfolding says testsBy seenBy
-returns c = λ v. judged (off (beyond (c .before .if1 .taken)) (c .too-short .ensures))
+returns c = (λ v. judged (off (beyond (c .before .if1 .taken)) (c .too-short .ensures)), refl)
 
 byte-requires : tie.Need-byte-requires
 byte-requires c κs = search needs
@@ -32,14 +32,14 @@ too-short-requires-2 c κs = search needs
 
 returns-2 : tie.Need-returns-2
 unfolding says testsBy seenBy
-returns-2 c = λ v. simp (← c .before .before .byte .ensures) (judged (on (c .before .before .before .if1 .left) (off (beyond (c .before .if2 .taken)) (c .too-short2 .ensures))))
+returns-2 c = (λ v. simp (← c .before .before .byte .ensures .0) (judged (on (c .before .before .before .if1 .left) (off (beyond (c .before .if2 .taken)) (c .too-short2 .ensures)))), refl)
 
 byte-requires-2 : tie.Need-byte-requires-2
 byte-requires-2 c κs = search needs
 
 returns-3 : tie.Need-returns-3
 unfolding says testsBy seenBy
-returns-3 c = λ v. simp (← c .before .before .byte .ensures, ← c .byte2 .ensures) (judged (on (c .before .before .before .if1 .left) (on (c .before .if2 .left) (done (refl)))))
+returns-3 c = (λ v. simp (← c .before .before .byte .ensures .0, ← c .byte2 .ensures .0) (judged (on (c .before .before .before .if1 .left) (on (c .before .if2 .left) (done (refl))))), refl)
 
 pub read-raw-ext-spec : {M : Type 1} → statement M
 read-raw-ext-spec =
