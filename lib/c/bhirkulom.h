@@ -1,9 +1,10 @@
-/* Bhirkulom for C: the functions of the archive that `compare/lib build` makes, for x86-64 Linux.
+/* Bhirkulom for C: the functions of libbhirkulom.a, which lib/build makes, for x86-64 Linux.
  *
  * Any bytes of any length get an answer. No bytes lent are written, only the numbers lent to bhirkulom_headers, which must
- * not overlap the frame; no pointer is kept. A pointer must not be null, also where the length is 0, and the bytes behind it must not change during the call. The numbers are those of
- * document 01; a part that a frame doesn't have is all zeros. Proved are the answers of the functions; this header only
- * says again, for C, what crates/exports/src/handed.rt has.
+ * not overlap the frame; no pointer is kept. A pointer must not be null, also where the length is 0, and the bytes behind it
+ * must not change during the call. The functions keep nothing from call to call, so any thread may call them. The numbers are
+ * those of document 01; a part that a frame doesn't have is all zeros. Proved are the answers of the functions; this header
+ * only says again, for C, what crates/exports/src/handed.rt has, and bin/check-interface holds it to that.
  */
 #ifndef BHIRKULOM_H
 #define BHIRKULOM_H

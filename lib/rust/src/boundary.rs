@@ -1,7 +1,8 @@
 //! The boundary to the proved library: its structs, its functions, and the only unsafe code of this crate.
 //!
 //! The structs are those of crates/exports/src/handed.rt. What each number is stands in
-//! crates/exports/specs/Handed.antt, which the contracts of the functions cite.
+//! crates/exports/specs/Handed.antt, which the contracts of the functions cite. `bin/check-interface` holds this file
+//! and the C header against both.
 
 /// How many tags a packet has room for.
 pub const TAG_LIMIT: usize = 3;
