@@ -11,6 +11,10 @@ fn main() {
     };
     let archive = folder.join("libbhirkulom.a");
     println!("cargo:rerun-if-changed={}", archive.display());
+    if !folder.is_absolute() {
+        eprintln!("BHIRKULOM_LIB is {}, and wants a whole path", folder.display());
+        process::exit(1);
+    }
     if !archive.is_file() {
         eprintln!("no {}", archive.display());
         eprintln!("run lib/build in the repository of Bhirkulom, which proves and makes it;");
