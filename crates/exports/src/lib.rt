@@ -1,6 +1,6 @@
 // The collector's functions for C and Rust, over numbers, slices and structs. Any bytes of any length get an answer, and so does
-// any number of an entry. No bytes lent are written, only the numbers lent to `bhirkulom_headers`. `compare/lib build` makes the
-// archive, with crate `exports_by_number`.
+// any number of an entry. No bytes lent are written, only the numbers lent to `bhirkulom_headers`. `lib/build` makes the archive,
+// with crate `exports_by_number`; `bin/check-interface` holds the C header and the Rust crate to these functions.
 ghost use mathlib.Core.Path.{_≡_};
 ghost use lib.ListN.{length};
 ghost use Rattle.checksum.specs.Sum.{addSlice, answer, noZero};

@@ -1,5 +1,5 @@
 /* Sample frames of document 01 through the C header: says each check that fails, and how many passed. */
-#include "../bhirkulom.h"
+#include <bhirkulom.h>
 
 #include <stdio.h>
 #include <string.h>
