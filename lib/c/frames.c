@@ -176,6 +176,7 @@ static void sums(void) {
 }
 
 int main(void) {
+    check("the library is of this header's interface", bhirkulom_interface() == BHIRKULOM_INTERFACE);
     f12();
     numberings();
     refused();
