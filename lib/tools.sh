@@ -1,6 +1,6 @@
 # tools.sh: what the scripts of lib and compare share, sourced from the repository's root: the machine's compiler, linker and emulator, and
-# the kit's tools. The library is for x86-64. There all runs as it is. On Arm (aarch64) it runs under an emulator, with Debian's packages,
-# which are installed where they are missing.
+# the kit's tools. The library is for x86-64. There all runs as it is. On Arm (aarch64) it runs under an emulator, with Debian's packages.
+# Packages that are missing are named; they are installed only where that is asked for, by --install as a script's first word or by INSTALL=yes.
 # shellcheck shell=sh disable=SC2034
 TARGET=x86_64-unknown-linux-gnu
 archive=target/lib
@@ -8,8 +8,17 @@ archive=target/lib
 say() { printf '%s: %s\n' "$(basename "$0")" "$*" >&2; }
 die() { say "$*"; exit 2; }
 
-# Installs the named packages from apt's own sources.
+case ${1:-} in
+--install)
+    INSTALL=yes
+    shift
+    ;;
+esac
+export INSTALL="${INSTALL:-}"
+
+# Installs the named packages from apt's own sources, if that was asked for.
 install() {
+    [ "$INSTALL" = yes ] || die "missing: Debian's packages $*; --install as the first word installs them"
     [ "$(id -u)" = 0 ] || die "missing: $* (run once as root)"
     DEBIAN_FRONTEND=noninteractive apt-get -q -o DPkg::Lock::Timeout=300 install -y --no-install-recommends "$@" >&2 ||
         die "apt-get could not install: $*"
@@ -36,8 +45,8 @@ find_tools() {
     aarch64)
         cc=x86_64-linux-gnu-gcc emulator=qemu-x86_64
         rustc=$(find_rustc) || {
-            dpkg --print-foreign-architectures | grep -qx amd64 || dpkg --add-architecture amd64
-            apt-get -q update >&2 || true
+            [ "$INSTALL" != yes ] || dpkg --print-foreign-architectures | grep -qx amd64 || dpkg --add-architecture amd64
+            [ "$INSTALL" != yes ] || apt-get -q update >&2 || true
             install rustc-web libstd-rust-web-dev:amd64
             rustc=$(find_rustc) || die "no rustc for $TARGET"
         }
