@@ -6,9 +6,9 @@
 //! trouble with the words or a file.
 #![deny(unsafe_code)]
 
-// the library's functions themselves: what they leave in lent numbers doesn't show through the wrapper
+// the library's functions themselves: what they leave in lent numbers doesn't show through the crate
 #[allow(dead_code, unsafe_code)]
-#[path = "../../wrapper/src/boundary.rs"]
+#[path = "../../../lib/rust/src/boundary.rs"]
 mod boundary;
 mod check;
 mod handed;

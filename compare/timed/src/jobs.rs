@@ -8,7 +8,7 @@ use std::hint::black_box;
 /// Numbers to lend to a list of headers: room for those of the longest chain.
 pub const ROOM: usize = 3 * 8192;
 
-/// How many headers there is room for in what is lent, at least: as many as the wrapper lends room for.
+/// How many headers there is room for in what is lent, at least: as many as the crate lends room for.
 const FEW: usize = 16;
 
 /// Those of them that are lent for a frame. Each call writes all of them, zeros where it has no header, so more would be timed for their zeros.

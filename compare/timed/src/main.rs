@@ -6,7 +6,7 @@
 //!   grow          how cost grows with headers and with length, and the stack that is used
 #![allow(dead_code)]
 
-#[path = "../../wrapper/src/boundary.rs"]
+#[path = "../../../lib/rust/src/boundary.rs"]
 mod boundary;
 mod check;
 mod cursor;

@@ -46,7 +46,7 @@ use Rattle.exports.specs.declared.handed.Packet.{Packet}
 use Rattle.exports.specs.declared.handed.HeaderReply.{HeaderReply}
 use Rattle.exports.specs.declared.handed.CountReply.{CountReply}
 use Rattle.exports.specs.declared.handed.OptionReply.{OptionReply}
-use Rattle.exports.specs.Handed.{entryBy, sliceFor, headerFor, countFor, listFor, optionBy}
+use Rattle.exports.specs.Handed.{interface, entryBy, sliceFor, headerFor, countFor, listFor, optionBy}
 use Rattle.chain.specs.Settled.{Settles, same-value}
 
 -- the reason
@@ -138,6 +138,9 @@ pub print-left : (entry : Entry) (s : List ℕ) (n : ℕ) → Settles (λ (after
 print-left entry s n = by-value (printedIn (textOf entry s) n)
 
 -- ---- crates exports and exports_by_number
+
+pub bhirkulom-interface : Settles (λ (r : ℕ). r ≡ interface)
+bhirkulom-interface = by-value interface
 
 pub bhirkulom-slice : (s : List ℕ) (entry : ℕ) → Settles (λ (r : Packet). r ≡ sliceFor (entryBy entry) s)
 bhirkulom-slice s entry = by-value (sliceFor (entryBy entry) s)

@@ -35,7 +35,10 @@ use Rattle.exports.specs.declared.handed.HeaderReply.{HeaderReply}
 use Rattle.exports.specs.declared.handed.CountReply.{CountReply}
 use Rattle.exports.specs.declared.handed.OptionReply.{OptionReply}
 
--- ---- statuses, and entries by number
+-- ---- the interface's version, statuses, and entries by number
+
+abbrev pub interface : ℕ
+interface = 2
 
 -- the frame is accepted, or what was asked for is there
 abbrev pub there : ℕ

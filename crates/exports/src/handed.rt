@@ -6,6 +6,10 @@ use rules::Row;
 use rules::ether_type::TAG_LIMIT;
 use tcp_options::OptionRow;
 
+// The version of this interface. It goes up with each change of a struct, of a function's parameters or of what a number means, so that a program
+// that was compiled against another one can tell.
+pub const INTERFACE: usize = 2;
+
 // Statuses. Accepted, or what was asked for is there.
 pub const THERE: usize = 0;
 

@@ -1,11 +1,12 @@
 // The collector's functions for C and Rust, over numbers, slices and structs. Any bytes of any length get an answer, and so does
-// any number of an entry. No bytes lent are written, only the numbers lent to `bhirkulom_headers`. `compare/lib build` makes the
-// archive, with crate `exports_by_number`.
+// any number of an entry. No bytes lent are written, only the numbers lent to `bhirkulom_headers`. `lib/build` makes the archive,
+// with crate `exports_by_number`; `bin/check-interface` holds the C header and the Rust crate to these functions.
 ghost use mathlib.Core.Path.{_≡_};
 ghost use lib.ListN.{length};
 ghost use Rattle.checksum.specs.Sum.{addSlice, answer, noZero};
 ghost use Rattle.tcp_options.specs.Options.{options, optionOf};
 ghost use Rattle.exports.specs.Handed.{
+  interface,
   entryBy,
   sliceFor,
   countFor,
@@ -13,6 +14,7 @@ ghost use Rattle.exports.specs.Handed.{
   optionBy,
 };
 use crate::handed::CountReply;
+use crate::handed::INTERFACE;
 use crate::handed::OptionReply;
 use crate::handed::Packet;
 use checksum::Sum16BitWords;
@@ -43,6 +45,14 @@ fn entry_by(number: usize) -> Chosen
         return Chosen::Is(Entry::Ipv6);
     }
     Chosen::Unknown
+}
+
+// The version of the interface that this library was built with.
+#[no_mangle]
+pub extern "C" fn bhirkulom_interface() -> usize
+    ensures { λ r. ⌜ r ≡ interface ⌝ }
+{
+    INTERFACE
 }
 
 // The whole reply to a frame. Entry 1 is a whole Ethernet II frame, 2 a packet known to be IPv4, 3 one known to be IPv6.

@@ -1,5 +1,5 @@
 /* Sample frames of document 01 through the C header: says each check that fails, and how many passed. */
-#include "../bhirkulom.h"
+#include <bhirkulom.h>
 
 #include <stdio.h>
 #include <string.h>
@@ -176,6 +176,7 @@ static void sums(void) {
 }
 
 int main(void) {
+    check("the library is of this header's interface", bhirkulom_interface() == BHIRKULOM_INTERFACE);
     f12();
     numberings();
     refused();

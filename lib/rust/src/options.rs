@@ -3,16 +3,22 @@
 use crate::boundary::{self, NO_MORE, REFUSED, THERE};
 use std::error::Error;
 use std::fmt;
+use std::iter::FusedIterator;
 
 /// The kinds of option.
 #[derive(Clone, Copy, Debug, PartialEq, Eq, Hash)]
-#[allow(missing_docs)]
 pub enum OptionKind {
+    /// Kind 1, of one byte.
     Noop,
+    /// Kind 2, of 4 bytes.
     MaximumSegmentSize,
+    /// Kind 3, of 3 bytes.
     WindowScale,
+    /// Kind 4, of 2 bytes.
     SelectiveAcknowledgementPermitted,
+    /// Kind 5, of 10, 18, 26 or 34 bytes.
     SelectiveAcknowledgement,
+    /// Kind 8, of 10 bytes.
     Timestamp,
     /// Any other kind, with its number.
     Unknown(u8),
@@ -99,6 +105,7 @@ impl OptionRefusal {
     }
 }
 
+/// The words `refused`, the number, `option` and the offset.
 impl fmt::Display for OptionRefusal {
     fn fmt(&self, f: &mut fmt::Formatter<'_>) -> fmt::Result {
         write!(f, "refused {} option {}", self.number(), self.offset)
@@ -124,6 +131,8 @@ pub fn tcp_option(options: &[u8], k: usize) -> Result<Option<TcpOption<'_>>, Opt
 }
 
 /// The options of what follows byte 20 of a TCP header, in order; last the refusal, if one is refused.
+///
+/// Each step asks for an option by its number, so it walks over those before. A TCP header has 40 bytes of options at most.
 ///
 /// ```
 /// use bhirkulom::{tcp_options, OptionKind, OptionReason};
@@ -162,3 +171,5 @@ impl<'a> Iterator for TcpOptionsIterator<'a> {
         answer
     }
 }
+
+impl FusedIterator for TcpOptionsIterator<'_> {}

@@ -5,7 +5,9 @@ use crate::header::{Entry, HeaderSlice, Kind};
 use crate::options::{tcp_options, TcpOptionsIterator};
 use crate::refusal::Refusal;
 use std::fmt;
+use std::hash::{Hash, Hasher};
 use std::ops::Deref;
+use std::slice;
 
 pub use crate::boundary::TAG_LIMIT;
 
@@ -30,6 +32,18 @@ pub struct NetSlice<'a> {
 }
 
 /// The VLAN tags of a frame, outermost first, as a slice of them.
+///
+/// ```
+/// # let mut frame = [0; 22];
+/// # frame[12..14].copy_from_slice(&[0x88, 0xa8]);
+/// # frame[16..18].copy_from_slice(&[0x81, 0x00]);
+/// let packet = bhirkulom::SlicedPacket::from_ethernet(&frame)?;
+/// for tag in &packet.tags {
+///     println!("tag at {}, identifier {}", tag.offset, u16::from_be_bytes([tag.slice[0], tag.slice[1]]) & 0x0fff);
+/// }
+/// assert_eq!(packet.tags.len(), 2);
+/// # Ok::<(), bhirkulom::Refusal>(())
+/// ```
 #[derive(Clone, Copy, PartialEq, Eq)]
 pub struct Tags<'a> {
     held: [HeaderSlice<'a>; TAG_LIMIT],
@@ -61,7 +75,7 @@ pub enum Stop {
 }
 
 /// An accepted frame cut into its parts.
-#[derive(Clone, Copy, Debug, PartialEq, Eq)]
+#[derive(Clone, Copy, Debug, PartialEq, Eq, Hash)]
 pub struct SlicedPacket<'a> {
     /// The Ethernet header; none at the two IP entries.
     pub link: Option<HeaderSlice<'a>>,
@@ -176,6 +190,21 @@ impl<'a> Deref for Tags<'a> {
     }
 }
 
+impl<'t, 'a> IntoIterator for &'t Tags<'a> {
+    type Item = &'t HeaderSlice<'a>;
+    type IntoIter = slice::Iter<'t, HeaderSlice<'a>>;
+
+    fn into_iter(self) -> Self::IntoIter {
+        self.iter()
+    }
+}
+
+impl Hash for Tags<'_> {
+    fn hash<H: Hasher>(&self, state: &mut H) {
+        (**self).hash(state);
+    }
+}
+
 impl fmt::Debug for Tags<'_> {
     fn fmt(&self, f: &mut fmt::Formatter<'_>) -> fmt::Result {
         f.debug_list().entries(self.iter()).finish()
@@ -193,7 +222,22 @@ impl Number {
     }
 }
 
+/// `ether-type` or `ip-number`, and the number.
+impl fmt::Display for Number {
+    fn fmt(&self, f: &mut fmt::Formatter<'_>) -> fmt::Result {
+        match self {
+            Number::EtherType(number) => write!(f, "ether-type 0x{number:04x}"),
+            Number::Ip(number) => write!(f, "ip-number {number}"),
+        }
+    }
+}
+
 impl Stop {
+    /// The number in document 01, 1 to 5.
+    pub fn number(self) -> u8 {
+        self as u8
+    }
+
     fn by_number(number: usize) -> Stop {
         match number {
             1 => Stop::EtherTypeNotOpened,
@@ -203,5 +247,18 @@ impl Stop {
             5 => Stop::TransportRead,
             other => unreachable!("no stop has the number {other}"),
         }
+    }
+}
+
+/// What the number stands for, in a few words.
+impl fmt::Display for Stop {
+    fn fmt(&self, f: &mut fmt::Formatter<'_>) -> fmt::Result {
+        f.pad(match self {
+            Stop::EtherTypeNotOpened => "an EtherType that is not opened",
+            Stop::TagsFull => "more tags than are opened",
+            Stop::Fragment => "a fragment",
+            Stop::IpNumberNotOpened => "an IP number that is not opened",
+            Stop::TransportRead => "a transport header was read",
+        })
     }
 }

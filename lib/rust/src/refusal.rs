@@ -111,6 +111,20 @@ impl Source {
     }
 }
 
+/// The name.
+impl fmt::Display for Layer {
+    fn fmt(&self, f: &mut fmt::Formatter<'_>) -> fmt::Result {
+        f.pad(self.name())
+    }
+}
+
+/// The name.
+impl fmt::Display for Source {
+    fn fmt(&self, f: &mut fmt::Formatter<'_>) -> fmt::Result {
+        f.pad(self.name())
+    }
+}
+
 impl Refusal {
     /// The number in document 01's table, 1 to 7.
     pub fn number(&self) -> u8 {

@@ -1,4 +1,4 @@
-//! Sample frames of document 01 through the wrapper, for machines that run no doc tests; and what is left in numbers lent to the library.
+//! Sample frames of document 01 through the crate, for machines that run no doc tests; and what is left in numbers lent to the library.
 #[allow(dead_code)]
 #[path = "../src/boundary.rs"]
 mod boundary;

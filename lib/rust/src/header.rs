@@ -2,6 +2,8 @@
 
 use crate::boundary::{self, Head, NO_MORE, REFUSED, THERE};
 use crate::refusal::Refusal;
+use std::fmt;
+use std::iter::FusedIterator;
 
 /// How a frame begins. Offsets count from the slice's start.
 #[derive(Clone, Copy, Debug, PartialEq, Eq, Hash)]
@@ -14,20 +16,30 @@ pub enum Entry {
     Ipv6 = 3,
 }
 
-/// The kinds of header.
+/// The kinds of header, with document 01's numbers.
 #[derive(Clone, Copy, Debug, PartialEq, Eq, PartialOrd, Ord, Hash)]
-#[allow(missing_docs)]
 pub enum Kind {
+    /// Ethernet II.
     Ethernet2 = 1,
+    /// A VLAN tag (types 0x8100, 0x88A8 and 0x9100).
     Vlan = 2,
+    /// IPv4, its options included.
     Ipv4 = 3,
+    /// IPv6, without its extensions.
     Ipv6 = 4,
+    /// IPv6's hop-by-hop options.
     HopByHop = 5,
+    /// IPv6's routing header.
     Routing = 6,
+    /// IPv6's destination options.
     Destination = 7,
+    /// IPv6's fragment header.
     Fragment = 8,
+    /// The authentication header, behind IPv4 or IPv6.
     Auth = 9,
+    /// UDP.
     Udp = 10,
+    /// TCP, its options included.
     Tcp = 11,
 }
 
@@ -75,6 +87,13 @@ impl Kind {
             11 => Kind::Tcp,
             other => unreachable!("no kind has the number {other}"),
         }
+    }
+}
+
+/// The name.
+impl fmt::Display for Kind {
+    fn fmt(&self, f: &mut fmt::Formatter<'_>) -> fmt::Result {
+        f.pad(self.name())
     }
 }
 
@@ -173,4 +192,14 @@ impl<'a> Iterator for Headers<'a> {
         let head = Head { kind: numbers[at], at: numbers[at + 1], len: numbers[at + 2] };
         Some(Ok(HeaderSlice::new(self.frame, head)))
     }
+
+    fn size_hint(&self) -> (usize, Option<usize>) {
+        // of a refused frame the count is 0
+        let left = self.count - self.next + usize::from(self.refusal.is_some());
+        (left, Some(left))
+    }
 }
+
+impl ExactSizeIterator for Headers<'_> {}
+
+impl FusedIterator for Headers<'_> {}

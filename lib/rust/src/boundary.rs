@@ -1,7 +1,11 @@
 //! The boundary to the proved library: its structs, its functions, and the only unsafe code of this crate.
 //!
 //! The structs are those of crates/exports/src/handed.rt. What each number is stands in
-//! crates/exports/specs/Handed.antt, which the contracts of the functions cite.
+//! crates/exports/specs/Handed.antt, which the contracts of the functions cite. `bin/check-interface` holds this file
+//! and the C header against both.
+
+/// The version of the interface that this crate is written for.
+pub const INTERFACE: usize = 2;
 
 /// How many tags a packet has room for.
 pub const TAG_LIMIT: usize = 3;
@@ -106,6 +110,7 @@ const _: () = {
 };
 
 extern "C" {
+    fn bhirkulom_interface() -> usize;
     fn bhirkulom_slice(frame: *const u8, len: usize, entry: usize) -> Packet;
     fn bhirkulom_header(frame: *const u8, len: usize, entry: usize, k: usize) -> HeaderReply;
     fn bhirkulom_count(frame: *const u8, len: usize, entry: usize) -> CountReply;
@@ -121,17 +126,32 @@ extern "C" {
 // exactly such bytes: its pointer isn't null, its `len` bytes are initialised and nobody writes them for the call. Numbers
 // that are lent to be written come as a `&mut` slice, which nobody else reads or writes for the call.
 
+/// Panics where the archive that was linked is of another interface: its structs would be read wrong.
+pub fn linked() {
+    use std::sync::atomic::{AtomicBool, Ordering};
+    static KNOWN: AtomicBool = AtomicBool::new(false);
+    if !KNOWN.load(Ordering::Relaxed) {
+        // SAFETY: no memory is lent, and a number is returned
+        let theirs = unsafe { bhirkulom_interface() };
+        assert!(theirs == INTERFACE, "libbhirkulom.a is of interface {theirs}, and this crate is written for {INTERFACE}: run lib/build");
+        KNOWN.store(true, Ordering::Relaxed);
+    }
+}
+
 pub fn slice(frame: &[u8], entry: usize) -> Packet {
+    linked();
     // SAFETY: pointer and length are one slice's, and any entry number gets an answer
     unsafe { bhirkulom_slice(frame.as_ptr(), frame.len(), entry) }
 }
 
 pub fn header(frame: &[u8], entry: usize, k: usize) -> HeaderReply {
+    linked();
     // SAFETY: pointer and length are one slice's, and any entry number and any k get an answer
     unsafe { bhirkulom_header(frame.as_ptr(), frame.len(), entry, k) }
 }
 
 pub fn count(frame: &[u8], entry: usize) -> CountReply {
+    linked();
     // SAFETY: pointer and length are one slice's, and any entry number gets an answer
     unsafe { bhirkulom_count(frame.as_ptr(), frame.len(), entry) }
 }
@@ -139,11 +159,13 @@ pub fn count(frame: &[u8], entry: usize) -> CountReply {
 /// The headers from number k on, three numbers each, as many as there is room for, and zeros behind them; zeros alone where no frame
 /// was accepted. What was in the lent numbers plays no part.
 pub fn headers(frame: &[u8], entry: usize, k: usize, heads: &mut [usize]) -> CountReply {
+    linked();
     // SAFETY: each pointer and its length are one slice's, and any entry number and any k get an answer
     unsafe { bhirkulom_headers(frame.as_ptr(), frame.len(), entry, k, heads.as_mut_ptr(), heads.len()) }
 }
 
 pub fn option(bytes: &[u8], k: usize) -> OptionReply {
+    linked();
     // SAFETY: pointer and length are one slice's, and any k gets an answer
     unsafe { bhirkulom_option(bytes.as_ptr(), bytes.len(), k) }
 }

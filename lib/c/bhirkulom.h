@@ -1,9 +1,10 @@
-/* Bhirkulom for C: the functions of the archive that `compare/lib build` makes, for x86-64 Linux.
+/* Bhirkulom for C: the functions of libbhirkulom.a, which lib/build makes, for x86-64 Linux.
  *
  * Any bytes of any length get an answer. No bytes lent are written, only the numbers lent to bhirkulom_headers, which must
- * not overlap the frame; no pointer is kept. A pointer must not be null, also where the length is 0, and the bytes behind it must not change during the call. The numbers are those of
- * document 01; a part that a frame doesn't have is all zeros. Proved are the answers of the functions; this header only
- * says again, for C, what crates/exports/src/handed.rt has.
+ * not overlap the frame; no pointer is kept. A pointer must not be null, also where the length is 0, and the bytes behind it
+ * must not change during the call. The functions keep nothing from call to call, so any thread may call them. The numbers are
+ * those of document 01; a part that a frame doesn't have is all zeros. Proved are the answers of the functions; this header
+ * only says again, for C, what crates/exports/src/handed.rt has, and bin/check-interface holds it to that.
  */
 #ifndef BHIRKULOM_H
 #define BHIRKULOM_H
@@ -16,6 +17,9 @@
 #ifdef __cplusplus
 extern "C" {
 #endif
+
+/* The version of this interface. A library of another one hands over other structs: compare it with bhirkulom_interface() once, before any other call. */
+#define BHIRKULOM_INTERFACE 2
 
 /* How a frame begins. Any other number gets BHIRKULOM_NO_SUCH_ENTRY. */
 enum bhirkulom_entry {
@@ -148,6 +152,9 @@ static_assert(sizeof(struct bhirkulom_packet) == 248, "layout");
 static_assert(sizeof(struct bhirkulom_header_reply) == 80, "layout");
 static_assert(sizeof(struct bhirkulom_count_reply) == 64, "layout");
 static_assert(sizeof(struct bhirkulom_option_reply) == 56, "layout");
+
+/* The version of the interface that the library was built with: BHIRKULOM_INTERFACE, if it is this header's. */
+size_t bhirkulom_interface(void);
 
 /* The whole reply to a frame: there, refused, or no such entry. */
 struct bhirkulom_packet bhirkulom_slice(const uint8_t *frame, size_t len, size_t entry);
