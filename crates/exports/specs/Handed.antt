@@ -37,6 +37,7 @@ use Rattle.exports.specs.declared.handed.OptionReply.{OptionReply}
 
 -- ---- the interface's version, statuses, and entries by number
 
+-- `EXP-11`
 abbrev pub interface : ℕ
 interface = 2
 
@@ -56,6 +57,7 @@ abbrev pub noSuchEntry : ℕ
 noSuchEntry = 3
 
 -- "Entries: a whole Ethernet II frame, a packet known to be IPv4, and a packet known to be IPv6", numbered in that order from 1
+-- `EXP-1`
 abbrev pub entryBy : ℕ → Chosen
 entryBy n = pick (eqb n 1) (C.Is E.Ethernet) (pick (eqb n 2) (C.Is E.Ipv4) (pick (eqb n 3) (C.Is E.Ipv6) C.Unknown))
 
@@ -87,6 +89,7 @@ numberOf (M.Link t) = t .0
 numberOf (M.Ip n) = n .0
 
 -- which number that is: an EtherType, or an IP number
+-- `EXP-4`
 abbrev pub numberingOf : Number → ℕ
 numberingOf (M.Link t) = 1
 numberingOf (M.Ip n) = 2

@@ -71,6 +71,7 @@ pub enum ExtTurn {
     Ends,
 }
 
+// `EXT-1` to `EXT-4`
 pub fn ext_turn(number: IpNumber, place: ChainPlace) -> ExtTurn
     ensures { λ r. ⌜ r ≡ extTurn place (number .0) ⌝ }
 {

@@ -51,6 +51,7 @@ pub enum IpAt {
 }
 
 // The room that a header sets, in a room that ends `have` bytes from it: a header that declares no length keeps that room.
+// `ROOM-4`, `ROOM-5`
 fn set_room(x: IpHeader, have: usize, sets: RoomSource, source: RoomSource) -> IpFound
     ensures { λ r. ⌜ r ≡ setting x have sets source ⌝ }
 {
@@ -97,6 +98,7 @@ pub fn ipv6_at(w: &[u8], at: usize, source: RoomSource) -> IpAt
 }
 
 // Whether an IPv4 header's number opens its one AUTH header.
+// `EXT-5`, `EXT-6`
 pub fn opens_auth(number: IpNumber) -> bool
     ensures { λ r. ⌜ r ≡ eqb (number .0) authNumber ⌝ }
 {

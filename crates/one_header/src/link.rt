@@ -72,6 +72,7 @@ impl LinkTurn {
     }
 }
 
+// `VLAN-3`
 fn is_tag(number: EtherType) -> bool
     ensures { λ r. ⌜ r ≡ isTag (number .0) ⌝ }
 {
@@ -86,6 +87,7 @@ fn is_tag(number: EtherType) -> bool
 }
 
 // Where an EtherType leads, with so many tags held.
+// `LINK-1` to `LINK-3`, `VLAN-4` to `VLAN-6`
 pub fn link_turn(number: EtherType, tags: usize) -> LinkTurn
     ensures { λ r. ⌜ ((p : R) → p .tags ≡ tags → linkTurnOnPaper r ≡ link p (number .0)) ⌝ }
 {

@@ -46,6 +46,7 @@ pub fn tcp_at(w: &[u8], at: usize, source: RoomSource) -> TransportAt
 }
 
 // Why a walk stops behind a transport header.
+// `TRANS-5`
 pub fn stop_behind() -> Stop
     ensures { λ r. ⌜ r ≡ S.TransportRead ⌝ }
 {
@@ -71,6 +72,7 @@ impl TransportTurn {
 }
 
 // Where a number leads that opens no extension, in a packet that is marked as fragmented or is not.
+// `TRANS-1` to `TRANS-4`
 pub fn transport_turn(number: IpNumber, mark: bool) -> TransportTurn
     ensures { λ r. ⌜ ((p : R) → p .mark ≡ mark → transportTurnOnPaper r ≡ transport p (number .0)) ⌝ }
 {

@@ -11,6 +11,7 @@ use Rattle.printing.specs.declared.Printed.{Printed}
 use Rattle.printing.specs.declared.Printed.the-variants.{Whole, Cut}
 
 -- what a buffer of n bytes holds after the text t: the text and zeros behind it, and zeros alone where t does not fit
+-- `TEXT-7`
 unfoldable pub printedIn : List ℕ → ℕ → List ℕ
 printedIn t n = pick (leb (length t) n) (t ++ zeros (n - length t)) (zeros n)
 

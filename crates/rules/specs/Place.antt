@@ -47,12 +47,14 @@ entered k p = room (p .end) (tagsWith k (p .tags)) (p .version) (ipsWith k (p .i
 
 -- the room that an IP header of a version sets, by its declared length d: "Room ends at total length"; of none, it keeps
 -- the room's end and source: "Payload length 0: the room is all that follows"
+-- `ROOM-4`, `ROOM-5`, `MARK-2`
 abbrev pub setBy : (version d : ℕ) → Fragment → ℕ → Room → Room
 setBy version d fragment at p =
     room (pick (eqb d 0) (p .end) (at + d)) (p .tags) version (p .ips)
     (pick (eqb d 0) (p .source) (pick (eqb version 4) S.Ipv4 S.Ipv6)) (marking fragment false)
 
 -- "One fragmenting header marks the packet"
+-- `MARK-3`
 abbrev pub markedBy : Fragment → Room → Room
 markedBy fragment p = room (p .end) (p .tags) (p .version) (p .ips) (p .source) (marking fragment (p .mark))
 
@@ -129,11 +131,13 @@ read s p = settle (outcome s p) (p .at) (p .room .source)
 -- ---- where a walk begins
 
 -- the first place of a frame whose first header is of kind k
+-- `ENTRY-5`
 unfoldable pub start : Kind → List ℕ → Place
 start k s = place k 0 (entered k (room (length s) 0 0 0 S.Slice false))
 
 -- how a frame opens, by its entry: "a whole Ethernet II frame, a packet known to be IPv4, and a packet known to be IPv6
 -- (offsets then count from the packet's start)"
+-- `ENTRY-1` to `ENTRY-3`
 unfoldable pub opening : Entry → List ℕ → Follow
 opening E.Ethernet s = next (start Ethernet2 s)
 opening E.Ipv4 s = next (start Ipv4 s)

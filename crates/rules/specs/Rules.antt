@@ -33,10 +33,12 @@ abbrev pub isOneOf : ℕ → List ℕ → Bool
 isOneOf n [] = false
 isOneOf n (m ∷ ms) = pick (eqb n m) true (isOneOf n ms)
 
+-- `VLAN-3`
 unfoldable pub isTag : ℕ → Bool
 isTag n = isOneOf n Numbers.tagTypes
 
 -- "At most 3 tags. A tag type met with 3 held is accepted and left unopened, without looking at its bytes."
+-- `LINK-1` to `LINK-3`, `VLAN-4` to `VLAN-6`
 unfoldable pub link : Room → ℕ → Turn
 link p n =
     pick (isTag n) (pick (ltb (p .tags) Numbers.tagLimit) (Opens Vlan) (Stops S.TagsFull))
@@ -45,6 +47,7 @@ link p n =
     (Stops S.EtherTypeNotOpened)))
 
 -- "A fragmented packet's transport isn't opened. Otherwise 17 is UDP, 6 is TCP." "3 comes before 4"
+-- `TRANS-1` to `TRANS-4`
 unfoldable pub transport : Room → ℕ → Turn
 transport p n =
     pick (p .mark) (Stops S.Fragment)
@@ -53,15 +56,18 @@ transport p n =
     (Stops S.IpNumberNotOpened)))
 
 -- "IPv4 takes only the one AUTH." "Protocol 51: one AUTH header is read, fragmented or not."
+-- `EXT-5`, `EXT-6`
 unfoldable pub chain4 : Room → ℕ → Turn
 chain4 p n = pick (eqb n Numbers.authNumber) (Opens Auth) (transport p n)
 
 -- "Number 0 is hop-by-hop directly after the IPv6 header; later in an IPv6 chain it is refusal 5, before any length test."
+-- `EXT-1`, `EXT-3`
 abbrev pub hopByHop : ChainPlace → Turn
 hopByHop Directly = Opens HopByHop
 hopByHop Later = LateHopByHop
 
 -- "Any other number ends it."
+-- `EXT-2`, `EXT-4`
 unfoldable pub chain6 : ChainPlace → Room → ℕ → Turn
 chain6 place p n =
     pick (eqb n Numbers.hopByHopNumber) (hopByHop place)
@@ -160,6 +166,7 @@ ending to r =
 -- ---- the blocks
 
 -- "Ethernet: 14 bytes, type at 12. Tag: 4 bytes, type at 2."
+-- `ETH-1`, `ETH-2`, `VLAN-1`, `VLAN-2`
 abbrev pub linkRule : ℕ → Field → Rule
 linkRule size type =
     plain
@@ -174,6 +181,7 @@ linkRule size type =
 
 -- "IPv4 (RFC 791), checked in this order: 20 bytes there; version 4; IHL at least 5; IHL x 4 bytes there; total length
 -- at least IHL x 4; total length at most what is there. Room ends at total length." (RFC 791, section 3.1)
+-- `IP4-1` to `IP4-7`
 abbrev pub ipv4Rule : Rule
 ipv4Rule =
     beginning 4 (value Fields.totalLength) (λ g. fragmentBy (value Fields.ipv4Offset g) (value Fields.ipv4More g))
@@ -197,6 +205,7 @@ ipv4Rule =
 abbrev pub ipv6Declared : (ℕ → ℕ) → ℕ
 ipv6Declared g = pick (eqb (value Fields.payloadLength g) 0) 0 (Numbers.ipv6Length + value Fields.payloadLength g)
 
+-- `IP6-1` to `IP6-4`
 abbrev pub ipv6Rule : Rule
 ipv6Rule =
     beginning 6 ipv6Declared (λ g. Not)
@@ -213,6 +222,7 @@ ipv6Rule =
     }))
 
 -- "hop-by-hop 0, routing 43, destination 60 are (second byte + 1) x 8 long, at least 8" (RFC 8200, sections 4.3, 4.4, 4.6)
+-- `RAW-1` to `RAW-3`
 abbrev pub rawRule : Kind → Rule
 rawRule k =
     plain
@@ -227,6 +237,7 @@ rawRule k =
 
 -- "fragment 44 is 8, fragmenting if offset or M is nonzero"; the offset is the upper 13 bits of bytes 2 and 3, M the
 -- lowest bit (RFC 8200, section 4.5)
+-- `FRAG-1`, `FRAG-2`
 abbrev pub fragmentRule : Rule
 fragmentRule =
     beginning 0 (λ g. 0) (λ g. fragmentBy (value Fields.fragmentOffset g) (value Fields.fragmentMore g))
@@ -242,6 +253,7 @@ fragmentRule =
 
 -- "AUTH 51 is (second byte + 2) x 4, at least 12 (RFC 4302), its zero test after the 12-byte test and before the full
 -- length." Under IPv4 no extension follows it. (RFC 4302, section 2)
+-- `AUTH-1` to `AUTH-4`, `EXT-7`, `EXT-8`
 abbrev pub authRule : Rule
 authRule =
     plain
@@ -258,14 +270,17 @@ authRule =
 
 -- where a transport header's payload ends, counted from the header, of which `have` bytes are there:
 -- "after UDP to its length (length 0: room's end)"; TCP has no length of its own
+-- `UDP-5`
 abbrev pub udpEnd : (ℕ → ℕ) → ℕ → ℕ
 udpEnd g have = pick (eqb (value Fields.udpLength g) 0) have (value Fields.udpLength g)
 
+-- `TCP-5`
 abbrev pub tcpEnd : (ℕ → ℕ) → ℕ → ℕ
 tcpEnd g have = have
 
 -- "UDP (RFC 768): 8 bytes; length 0 means the rest of the room (as RFC 2675 has it); 1 to 7 is refused; else length must
 -- fit the room."
+-- `UDP-1` to `UDP-4`, `TRANS-5`
 abbrev pub udpRule : Rule
 udpRule =
     ending udpEnd
@@ -282,6 +297,7 @@ udpRule =
     }))
 
 -- "TCP (RFC 9293): 20 bytes, data offset at least 5, then offset x 4 bytes there." (RFC 9293, section 3.1)
+-- `TCP-1` to `TCP-4`, `TRANS-5`
 abbrev pub tcpRule : Rule
 tcpRule =
     ending tcpEnd

@@ -84,6 +84,7 @@ pub data Verdict (A : Type 0) : Type 0 where
   failed : Failure → Verdict A
 
 -- "the refusal is that of the first test failed in walk order, and no refusal is given otherwise"
+-- `WALK-2`
 unfoldable pub judge : {A : Type 0} → List Test → A → Verdict A
 judge [] x = whole x
 judge (t ∷ ts) x = pick (passes t) (judge ts x) (failed (failure t))

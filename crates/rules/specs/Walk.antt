@@ -73,11 +73,13 @@ nth (h ∷ hs) (suc k) = nth hs k
 
 -- "Header k of a refused frame is that refusal for every k, and so is its count; past the last header of an accepted one
 -- the answer is "no more"."
+-- `LIST-1`, `LIST-2`
 unfoldable pub headerOf : Trace HeaderAt → ℕ → Answer Header
 headerOf (accepted hs x) k = nth (map header hs) k
 headerOf (refused hs r) k = refusal r
 headerOf unfinished k = no-more
 
+-- `LIST-3`
 unfoldable pub countOf : Trace HeaderAt → Answer ℕ
 countOf (accepted hs x) = is (length hs)
 countOf (refused hs r) = refusal r

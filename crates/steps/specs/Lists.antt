@@ -46,6 +46,7 @@ headersListed unfinished = []
 
 -- n numbers lent for the headers from number k on: as many headers as there is room for, and zeros. No kind has the number 0, so
 -- what is zeros reads as no header
+-- `LIST-4` to `LIST-6`
 unfoldable pub listOf : Trace HeaderAt → (k n : ℕ) → List ℕ
 listOf t k n = writtenFrom k (headersListed t) (zeros n)
 

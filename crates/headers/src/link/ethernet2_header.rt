@@ -11,6 +11,7 @@ use rules::Kind;
 use rules::field;
 use rules::length;
 
+// `ETH-1`, `ETH-2`
 pub fn read_ethernet2(w: &[u8]) -> LinkRead
     ensures answer { λ r. ⌜ ((v : ℕ) → linkOnPaper r ≡ linkSays K.Ethernet2 v (now (w .entry))) ⌝ }
     ensures unwritten { λ r. ⌜ now (w .exit) ≡ now (w .entry) ⌝ }

@@ -11,6 +11,7 @@ use rules::Kind;
 use rules::field;
 use rules::length;
 
+// `VLAN-1`, `VLAN-2`
 pub fn read_vlan(w: &[u8]) -> LinkRead
     ensures answer { λ r. ⌜ ((v : ℕ) → linkOnPaper r ≡ linkSays K.Vlan v (now (w .entry))) ⌝ }
     ensures unwritten { λ r. ⌜ now (w .exit) ≡ now (w .entry) ⌝ }

@@ -14,6 +14,7 @@ use rules::Kind;
 use rules::field;
 use rules::length;
 
+// `AUTH-1` to `AUTH-4`
 pub fn read_auth(w: &[u8]) -> ExtRead
     ensures answer { λ r. ⌜ ((v : ℕ) → extOnPaper r ≡ extSays K.Auth v (now (w .entry))) ⌝ }
     ensures unwritten { λ r. ⌜ now (w .exit) ≡ now (w .entry) ⌝ }

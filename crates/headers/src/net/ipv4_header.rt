@@ -17,6 +17,7 @@ use rules::Layer;
 use rules::field;
 use rules::length;
 
+// `IP4-1` to `IP4-8`
 pub fn read_ipv4(w: &[u8]) -> IpRead
     ensures answer { λ r. ⌜ ((v : ℕ) → ipOnPaper r ≡ ipSays K.Ipv4 v (now (w .entry))) ⌝ }
     ensures unwritten { λ r. ⌜ now (w .exit) ≡ now (w .entry) ⌝ }

@@ -14,6 +14,7 @@ use rules::Kind;
 use rules::field;
 use rules::length;
 
+// `FRAG-1` to `FRAG-3`
 pub fn read_fragment(w: &[u8]) -> ExtRead
     ensures answer { λ r. ⌜ ((v : ℕ) → extOnPaper r ≡ extSays K.Fragment v (now (w .entry))) ⌝ }
     ensures unwritten { λ r. ⌜ now (w .exit) ≡ now (w .entry) ⌝ }

@@ -17,6 +17,7 @@ use rules::Layer;
 use rules::field;
 use rules::length;
 
+// `IP6-1` to `IP6-4`
 pub fn read_ipv6(w: &[u8]) -> IpRead
     ensures answer { λ r. ⌜ ((v : ℕ) → ipOnPaper r ≡ ipSays K.Ipv6 v (now (w .entry))) ⌝ }
     ensures unwritten { λ r. ⌜ now (w .exit) ≡ now (w .entry) ⌝ }

@@ -14,6 +14,7 @@ use rules::field;
 use rules::length;
 
 // `kind` is only the name that a refusal gives the header.
+// `RAW-1` to `RAW-3`
 pub fn read_raw_ext(w: &[u8], kind: Kind) -> ExtRead
     ensures answer { λ r. ⌜ ((v : ℕ) → extOnPaper r ≡ rawSays kind v (now (w .entry))) ⌝ }
     ensures unwritten { λ r. ⌜ now (w .exit) ≡ now (w .entry) ⌝ }

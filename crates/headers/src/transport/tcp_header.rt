@@ -11,6 +11,7 @@ use rules::Kind;
 use rules::field;
 use rules::length;
 
+// `TCP-1` to `TCP-5`
 pub fn read_tcp(w: &[u8]) -> TransportRead
     ensures answer { λ r. ⌜ ((v : ℕ) → transportOnPaper r ≡ tcpSays v (now (w .entry))) ⌝ }
     ensures unwritten { λ r. ⌜ now (w .exit) ≡ now (w .entry) ⌝ }

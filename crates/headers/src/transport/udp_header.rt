@@ -13,6 +13,7 @@ use rules::Layer;
 use rules::field;
 use rules::length;
 
+// `UDP-1` to `UDP-5`
 pub fn read_udp(w: &[u8]) -> TransportRead
     ensures answer { λ r. ⌜ ((v : ℕ) → transportOnPaper r ≡ udpSays v (now (w .entry))) ⌝ }
     ensures unwritten { λ r. ⌜ now (w .exit) ≡ now (w .entry) ⌝ }
