@@ -4,6 +4,8 @@
 //! crates/exports/specs/Handed.antt, which the contracts of the functions cite. `bin/check-interface` holds this file
 //! and the C header against both.
 
+use std::sync::atomic::{AtomicBool, Ordering};
+
 /// The version of the interface that this crate is written for.
 pub const INTERFACE: usize = 2;
 
@@ -126,15 +128,23 @@ extern "C" {
 // exactly such bytes: its pointer isn't null, its `len` bytes are initialised and nobody writes them for the call. Numbers
 // that are lent to be written come as a `&mut` slice, which nobody else reads or writes for the call.
 
-/// Panics where the archive that was linked is of another interface: its structs would be read wrong.
-pub fn linked() {
-    use std::sync::atomic::{AtomicBool, Ordering};
-    static KNOWN: AtomicBool = AtomicBool::new(false);
+static KNOWN: AtomicBool = AtomicBool::new(false);
+
+/// Panics where the archive that was linked is of another interface: its structs would be read wrong. Asked once; a call apart, so that
+/// those that come after pay for a load alone.
+#[cold]
+#[inline(never)]
+fn compare() {
+    // SAFETY: no memory is lent, and a number is returned
+    let theirs = unsafe { bhirkulom_interface() };
+    assert!(theirs == INTERFACE, "libbhirkulom.a is of interface {theirs}, and this crate is written for {INTERFACE}: run lib/build");
+    KNOWN.store(true, Ordering::Relaxed);
+}
+
+#[inline(always)]
+fn linked() {
     if !KNOWN.load(Ordering::Relaxed) {
-        // SAFETY: no memory is lent, and a number is returned
-        let theirs = unsafe { bhirkulom_interface() };
-        assert!(theirs == INTERFACE, "libbhirkulom.a is of interface {theirs}, and this crate is written for {INTERFACE}: run lib/build");
-        KNOWN.store(true, Ordering::Relaxed);
+        compare();
     }
 }
 

@@ -54,7 +54,7 @@
 //! Headers by number, TCP options and the checksum: [`header`], [`headers`], [`count`], [`tcp_options`],
 //! [`Sum16BitWords`].
 //!
-//! No function panics, whatever the bytes. The answers come from the archive of the proved library (`lib/build` makes
+//! No function panics, whatever the bytes; the first call panics where the linked archive is of another interface. The answers come from the archive of the proved library (`lib/build` makes
 //! it); the crate turns its numbers into types, and offsets and lengths into slices of the frame. That every part lies
 //! inside the frame, and that no other number is handed over than those that have a variant here, is proved.
 #![deny(unsafe_code)]
