@@ -1,11 +1,13 @@
 // Bytes of a frame read as numbers, high byte first, for the crates that read headers and options. Past the end every byte counts
 // as 0, so nothing is asked of the caller; a reader has tested the length before. For users there are the readers.
+#![tactic(auto)]
+
 ghost use Rattle.std.specs.Prelude.{◌≡◌};
 ghost use Rattle.rules.specs.Bytes.{byte_at, number};
 
 pub fn byte(s: &[u8], at: usize) -> u8
     ensures answer { result ≡ byte_at s.now at }
-    ensures unwritten { s.now ≡ s.now }
+    ensures unwritten { s.exit.now ≡ s.entry.now }
 {
     if at < s.len() {
         return s[at];
@@ -15,7 +17,7 @@ pub fn byte(s: &[u8], at: usize) -> u8
 
 pub fn be16(s: &[u8], at: usize) -> u16
     ensures answer { result ≡ number 2 (byte_at s.now) at }
-    ensures unwritten { s.now ≡ s.now }
+    ensures unwritten { s.exit.now ≡ s.entry.now }
 {
     if s.len() <= at {
         return 0;
@@ -27,7 +29,7 @@ pub fn be16(s: &[u8], at: usize) -> u16
 
 pub fn be32(s: &[u8], at: usize) -> u32
     ensures answer { result ≡ number 4 (byte_at s.now) at }
-    ensures unwritten { s.now ≡ s.now }
+    ensures unwritten { s.exit.now ≡ s.entry.now }
 {
     if s.len() <= at {
         return 0;

@@ -1,5 +1,7 @@
 // The Internet checksum (RFC 1071), with the names of the crate etherparse's src/checksum.rs: any slices may be added, in any number, and
 // the answer is that of specs/Sum.antt over the list of them.
+#![tactic(auto)]
+
 ghost use Rattle.std.specs.Prelude.{◌≡◌, [], ◌+◌, ◌*◌, ◌≤◌, length};
 ghost use Rattle.checksum.specs.Sum.{base, ones, word, fold, totals, add_slice, answer, without_zero};
 ghost use Rattle.checksum.specs.Laws.{block_length};
@@ -12,7 +14,7 @@ const ONES: u16 = 0xffff;
 const BLOCK: usize = 65536;
 
 // The sum so far, kept folded: every value of the field is a sum, no sum overflows, and so adding has nothing to refuse.
-#[derive(Drop)]
+#[derive(Clone, Copy)]
 pub struct Sum16BitWords {
     pub sum: u16,
 }
@@ -91,7 +93,7 @@ impl Sum16BitWords {
     // A slice of odd length is padded with one zero byte where it ends, also when another slice follows it.
     pub fn add_slice(self, slice: &[u8]) -> Self
         ensures answer { result.sum ≡ add_slice self.sum slice.now }
-        ensures unwritten { slice.now ≡ slice.now }
+        ensures unwritten { slice.exit.now ≡ slice.entry.now }
     {
         let start = self.sum;
         let sum = add_blocks(start, slice);

@@ -1,6 +1,7 @@
 // The collector's functions for C and Rust, over numbers, slices and structs. Any bytes of any length get an answer, and so does
 // any number of an entry. No bytes lent are written, only the numbers lent to `bhirkulom_headers`. `lib/build` makes the archive,
 // with crate `exports_by_number`; `bin/check-interface` holds the C header and the Rust crate to these functions.
+#![tactic(auto)]
 ghost use Rattle.std.specs.Prelude.{◌≡◌, length};
 ghost use Rattle.checksum.specs.Sum.{add_slice, answer, without_zero};
 ghost use Rattle.tcp_options.specs.Options.{options, option_of};
@@ -23,7 +24,7 @@ pub mod handed;
 mod reply;
 
 // An entry by its number, or the answer that there is none of that number.
-#[derive(Drop)]
+#[derive(Clone, Copy)]
 pub enum Chosen {
     Is(Entry),
     Unknown,
@@ -56,7 +57,7 @@ pub extern "C" fn bhirkulom_interface() -> usize
 #[unsafe(no_mangle)]
 pub extern "C" fn bhirkulom_slice(frame: &[u8], entry: usize) -> Packet
     ensures answer { result ≡ slice_for (entry_by entry) frame.now }
-    ensures unwritten { frame.now ≡ frame.now }
+    ensures unwritten { frame.exit.now ≡ frame.entry.now }
 {
     let chosen = entry_by(entry);
     let Chosen::Is(known) = chosen else {
@@ -94,7 +95,7 @@ pub extern "C" fn bhirkulom_headers(
 ) -> CountReply
     ensures answer { result ≡ count_for (entry_by entry) frame.now }
     ensures listed { heads.new ≡ list_for (entry_by entry) frame.now k (length heads.old) }
-    ensures unwritten { frame.now ≡ frame.now }
+    ensures unwritten { frame.exit.now ≡ frame.entry.now }
 {
     let chosen = entry_by(entry);
     let Chosen::Is(known) = chosen else {
@@ -116,7 +117,7 @@ pub extern "C" fn bhirkulom_headers(
 #[unsafe(no_mangle)]
 pub extern "C" fn bhirkulom_option(bytes: &[u8], k: usize) -> OptionReply
     ensures answer { result ≡ option_by (option_of (options bytes.now) k) }
-    ensures unwritten { bytes.now ≡ bytes.now }
+    ensures unwritten { bytes.exit.now ≡ bytes.entry.now }
 {
     let found = tcp_options::option(bytes, k);
     reply::option_by(found)
@@ -126,7 +127,7 @@ pub extern "C" fn bhirkulom_option(bytes: &[u8], k: usize) -> OptionReply
 #[unsafe(no_mangle)]
 pub extern "C" fn bhirkulom_sum_add(sum: u16, slice: &[u8]) -> u16
     ensures answer { result ≡ add_slice sum slice.now }
-    ensures unwritten { slice.now ≡ slice.now }
+    ensures unwritten { slice.exit.now ≡ slice.entry.now }
 {
     let before = Sum16BitWords { sum };
     let after = before.add_slice(slice);

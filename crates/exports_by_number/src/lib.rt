@@ -1,5 +1,6 @@
 // Header k and the count for C and Rust programs: the list of crate `exports` with room for one header and for none. A crate of its
 // own, since the walk over the headers is taken in by its caller only where it has one in what is compiled together (docs/SPEED.md).
+#![tactic(auto)]
 ghost use Rattle.std.specs.Prelude.{◌≡◌, eqb};
 ghost use Rattle.rules.specs.Test.{pick};
 ghost use Rattle.exports.specs.Handed.{there, no_more, entry_by, header_for, count_for};
@@ -22,7 +23,7 @@ fn past(counted: usize) -> usize
 #[unsafe(no_mangle)]
 pub extern "C" fn bhirkulom_header(frame: &[u8], entry: usize, k: usize) -> HeaderReply
     ensures answer { result ≡ header_for (entry_by entry) frame.now k }
-    ensures unwritten { frame.now ≡ frame.now }
+    ensures unwritten { frame.exit.now ≡ frame.entry.now }
 {
     let mut one: [usize; HEADER_WORDS] = [0; HEADER_WORDS];
     let counted = bhirkulom_headers(frame, entry, k, &mut one);
@@ -55,7 +56,7 @@ pub extern "C" fn bhirkulom_header(frame: &[u8], entry: usize, k: usize) -> Head
 #[unsafe(no_mangle)]
 pub extern "C" fn bhirkulom_count(frame: &[u8], entry: usize) -> CountReply
     ensures answer { result ≡ count_for (entry_by entry) frame.now }
-    ensures unwritten { frame.now ≡ frame.now }
+    ensures unwritten { frame.exit.now ≡ frame.entry.now }
 {
     let mut nothing: [usize; 0] = [];
     bhirkulom_headers(frame, entry, 0, &mut nothing)

@@ -1,5 +1,7 @@
 // Header readers, one a header, each on the bytes from its header to the end of its room. Any bytes get an answer:
 // what the header says, or the first test of document 01 that failed. A reader knows nothing of a walk.
+#![tactic(auto)]
+
 ghost use Rattle.std.specs.Prelude.{◌≡◌};
 ghost use Rattle.rules.specs.Paper.{fault_on_paper};
 ghost use Rattle.rules.specs.Test.{short};

@@ -1,10 +1,11 @@
 // Standard input, read so that a read that failed is told from the input's end.
+#![tactic(auto)]
 ghost use Rattle.std.specs.Prelude.{ℕ, ◌≤◌, ◌≡◌, length};
 ghost use Rattle.input.specs.declared.Input.TheVariants.{Came};
 
 // `Came`: so many bytes came, and then the input ended or the buffer was full. `Failed`: a read failed, and what came before it
 // is not to be taken for the input.
-#[derive(Drop)]
+#[derive(Clone, Copy)]
 pub enum Input {
     Came(usize),
     Failed,

@@ -1,1 +1,2 @@
 // No code: what the code above needs to know of the definitions of crate rules (specs/).
+#![tactic(auto)]

@@ -8,7 +8,7 @@ use crate::refuse::refuse_ext;
 use headers::{ExtHeader, ExtRead};
 use rules::{ChainPlace, IpNumber, Kind, Refusal, RoomSource, ip_number};
 
-#[derive(Drop)]
+#[derive(Clone, Copy)]
 pub enum ExtKind {
     HopByHop,
     Routing,
@@ -31,7 +31,7 @@ impl ExtKind {
     }
 }
 
-#[derive(Drop)]
+#[derive(Clone, Copy)]
 pub enum ExtAt {
     Whole(ExtHeader),
     Refused(Refusal),
@@ -51,7 +51,7 @@ fn read_ext(w: &[u8], kind: ExtKind) -> ExtRead
 
 pub fn ext_at(w: &[u8], kind: ExtKind, at: usize, source: RoomSource) -> ExtAt
     ensures answer { (v : ℕ) → ext_at_on_paper result ≡ placing (ext_says (ext_kind_of kind) v w.now) at source }
-    ensures unwritten { w.now ≡ w.now }
+    ensures unwritten { w.exit.now ≡ w.entry.now }
 {
     let answer = read_ext(w, kind);
     let ExtRead::Whole(x) = answer else {
@@ -61,7 +61,7 @@ pub fn ext_at(w: &[u8], kind: ExtKind, at: usize, source: RoomSource) -> ExtAt
 }
 
 // A number of a chain: an extension, a hop-by-hop header that is not at the start, or the chain's end.
-#[derive(Drop)]
+#[derive(Clone, Copy)]
 pub enum ExtTurn {
     Opens(ExtKind),
     LateHopByHop,

@@ -23,7 +23,7 @@ use rules::{
 
 // What a whole header says: its length, the room that it leaves, the number that it names, where that leads, and where the payload
 // ends if that is nowhere. Both ends are counted from the header. Flat, since whatever is nested is copied at each step.
-#[derive(Drop)]
+#[derive(Clone, Copy)]
 pub struct HeaderFound {
     pub len: usize,
     pub end: usize,
@@ -35,7 +35,7 @@ pub struct HeaderFound {
     pub mark: bool,
 }
 
-#[derive(Drop)]
+#[derive(Clone, Copy)]
 pub enum HeaderRead {
     Whole(HeaderFound),
     Refused(Refusal),
@@ -175,7 +175,7 @@ fn transport_header(read: TransportAt, number: u8, have: usize, room: Room) -> H
 // and not `room`.
 pub fn header_at(w: &[u8], kind: Kind, at: usize, room: Room) -> HeaderRead
     ensures answer { header_read_on_paper result at room ≡ read_part w.now kind at room }
-    ensures unwritten { w.now ≡ w.now }
+    ensures unwritten { w.exit.now ≡ w.entry.now }
 {
     let source = room.source;
     let have = w.len();

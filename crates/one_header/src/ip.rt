@@ -11,7 +11,7 @@ use crate::refuse::refuse_ip;
 use headers::{IpHeader, IpRead};
 use rules::{Fragment, IpNumber, Kind, Refusal, RoomSource, ip_number};
 
-#[derive(Drop)]
+#[derive(Clone, Copy)]
 pub enum IpKind {
     Ipv4,
     Ipv6,
@@ -30,7 +30,7 @@ impl IpKind {
 
 // An IP header and the room that it sets: where that ends, counted from the header, and what set it. This and other answers that
 // stand beside a refusal end in a usize, since a refusal ends in a byte (docs/ARCHITECTURE.md, Layout of types).
-#[derive(Drop)]
+#[derive(Clone, Copy)]
 pub struct IpFound {
     pub len: usize,
     pub end: usize,
@@ -39,7 +39,7 @@ pub struct IpFound {
     pub fragment: Fragment,
 }
 
-#[derive(Drop)]
+#[derive(Clone, Copy)]
 pub enum IpAt {
     Whole(IpFound),
     Refused(Refusal),
@@ -72,7 +72,7 @@ fn set_room(x: IpHeader, have: usize, sets: RoomSource, source: RoomSource) -> I
 
 pub fn ipv4_at(w: &[u8], at: usize, source: RoomSource) -> IpAt
     ensures answer { (v : ℕ) → ip_at_on_paper result ≡ placing (over (λ x. setting x (length w.now) S.Ipv4 source) (ip_says K.Ipv4 v w.now)) at source }
-    ensures unwritten { w.now ≡ w.now }
+    ensures unwritten { w.exit.now ≡ w.entry.now }
 {
     let answer = headers::read_ipv4(w);
     let IpRead::Whole(x) = answer else {
@@ -83,7 +83,7 @@ pub fn ipv4_at(w: &[u8], at: usize, source: RoomSource) -> IpAt
 
 pub fn ipv6_at(w: &[u8], at: usize, source: RoomSource) -> IpAt
     ensures answer { (v : ℕ) → ip_at_on_paper result ≡ placing (over (λ x. setting x (length w.now) S.Ipv6 source) (ip_says K.Ipv6 v w.now)) at source }
-    ensures unwritten { w.now ≡ w.now }
+    ensures unwritten { w.exit.now ≡ w.entry.now }
 {
     let answer = headers::read_ipv6(w);
     let IpRead::Whole(x) = answer else {

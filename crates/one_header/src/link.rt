@@ -14,7 +14,7 @@ use rules::ether_type::TAG_LIMIT;
 use rules::{EtherType, Kind, Refusal, RoomSource, Stop, Turn, ether_type};
 
 // A link header tells the EtherType that it names.
-#[derive(Drop)]
+#[derive(Clone, Copy)]
 pub enum LinkAt {
     Whole(EtherType),
     Refused(Refusal),
@@ -22,7 +22,7 @@ pub enum LinkAt {
 
 pub fn ethernet2_at(w: &[u8], at: usize, source: RoomSource) -> LinkAt
     ensures answer { (v : ℕ) → link_at_on_paper result ≡ placing (link_says K.Ethernet2 v w.now) at source }
-    ensures unwritten { w.now ≡ w.now }
+    ensures unwritten { w.exit.now ≡ w.entry.now }
 {
     let answer = headers::read_ethernet2(w);
     let LinkRead::Whole(number) = answer else {
@@ -33,7 +33,7 @@ pub fn ethernet2_at(w: &[u8], at: usize, source: RoomSource) -> LinkAt
 
 pub fn vlan_at(w: &[u8], at: usize, source: RoomSource) -> LinkAt
     ensures answer { (v : ℕ) → link_at_on_paper result ≡ placing (link_says K.Vlan v w.now) at source }
-    ensures unwritten { w.now ≡ w.now }
+    ensures unwritten { w.exit.now ≡ w.entry.now }
 {
     let answer = headers::read_vlan(w);
     let LinkRead::Whole(number) = answer else {
@@ -43,13 +43,13 @@ pub fn vlan_at(w: &[u8], at: usize, source: RoomSource) -> LinkAt
 }
 
 // What ends a tag walk: an IP header, or a stop.
-#[derive(Drop)]
+#[derive(Clone, Copy)]
 pub enum LinkEnd {
     Opens(IpKind),
     Stops(Stop),
 }
 
-#[derive(Drop)]
+#[derive(Clone, Copy)]
 pub enum LinkTurn {
     Tag,
     Ends(LinkEnd),

@@ -11,7 +11,7 @@ use crate::refuse::refuse_transport;
 use headers::{TransportHeader, TransportRead};
 use rules::{IpNumber, Kind, Refusal, RoomSource, Stop, Turn, ip_number};
 
-#[derive(Drop)]
+#[derive(Clone, Copy)]
 pub enum TransportAt {
     Whole(TransportHeader),
     Refused(Refusal),
@@ -19,7 +19,7 @@ pub enum TransportAt {
 
 pub fn udp_at(w: &[u8], at: usize, source: RoomSource) -> TransportAt
     ensures answer { (v : ℕ) → transport_at_on_paper result ≡ placing (udp_says v w.now) at source }
-    ensures unwritten { w.now ≡ w.now }
+    ensures unwritten { w.exit.now ≡ w.entry.now }
 {
     let answer = headers::read_udp(w);
     let TransportRead::Whole(x) = answer else {
@@ -30,7 +30,7 @@ pub fn udp_at(w: &[u8], at: usize, source: RoomSource) -> TransportAt
 
 pub fn tcp_at(w: &[u8], at: usize, source: RoomSource) -> TransportAt
     ensures answer { (v : ℕ) → transport_at_on_paper result ≡ placing (tcp_says v w.now) at source }
-    ensures unwritten { w.now ≡ w.now }
+    ensures unwritten { w.exit.now ≡ w.entry.now }
 {
     let answer = headers::read_tcp(w);
     let TransportRead::Whole(x) = answer else {
@@ -47,7 +47,7 @@ pub fn stop_behind() -> Stop
     Stop::TransportRead
 }
 
-#[derive(Drop)]
+#[derive(Clone, Copy)]
 pub enum TransportTurn {
     Udp,
     Tcp,

@@ -1,4 +1,5 @@
 // A frame's reply as the program prints it: the text of specs/Text.antt, written into a lent buffer.
+#![tactic(auto)]
 ghost use Rattle.std.specs.Prelude.{◌≡◌, length};
 ghost use Rattle.rules.specs.Walk.{slices};
 ghost use Rattle.slicer.specs.Reply.{outcome_on_paper, reply_of};
@@ -15,7 +16,7 @@ mod line;
 mod write;
 
 // `Whole`: the buffer's first so many bytes are the whole text. `Cut`: the text does not fit the buffer.
-#[derive(Drop)]
+#[derive(Clone, Copy)]
 pub enum Printed {
     Whole(usize),
     Cut,
@@ -80,7 +81,7 @@ fn lines(s: &[u8], entry: Entry, out: &mut [u8]) -> usize
 pub fn print(s: &[u8], entry: Entry, out: &mut [u8]) -> Printed
     ensures text { out.new ≡ printed_in (text_of entry s.now) (length out.old) }
     ensures answer { result ≡ printed_by (text_of entry s.now) (length out.old) }
-    ensures unwritten { s.now ≡ s.now }
+    ensures unwritten { s.exit.now ≡ s.entry.now }
 {
     clear(out);
     let past = lines(s, entry, out);

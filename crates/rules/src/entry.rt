@@ -1,5 +1,5 @@
 // How a frame begins, as the collector says.
-#[derive(Drop)]
+#[derive(Clone, Copy)]
 pub enum Entry {
     Ethernet,
     Ipv4,

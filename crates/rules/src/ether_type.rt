@@ -1,5 +1,5 @@
 // Numbers of the link, as the crate names them.
-#[derive(Drop)]
+#[derive(Clone, Copy)]
 pub struct EtherType(pub u16);
 
 pub const VLAN_TAGGED_FRAME: u16 = 0x8100;

@@ -2,7 +2,7 @@
 ghost use Rattle.std.specs.Prelude.{◌≡◌};
 ghost use Rattle.rules.specs.Fields.{fragment_by, marking};
 
-#[derive(Drop)]
+#[derive(Clone, Copy)]
 pub enum Fragment {
     Not,
     First,

@@ -1,5 +1,5 @@
 // Numbers of IP, as the crate names them.
-#[derive(Drop)]
+#[derive(Clone, Copy)]
 pub struct IpNumber(pub u8);
 
 pub const IPV6_HOP_BY_HOP: u8 = 0;

@@ -3,7 +3,7 @@ ghost use Rattle.std.specs.Prelude.{◌≡◌};
 ghost use Rattle.rules.specs.Named.{kind_number, layer_number, source_number};
 ghost use Rattle.rules.specs.Test.{source_of};
 
-#[derive(Drop)]
+#[derive(Clone, Copy)]
 pub enum Kind {
     Ethernet2,
     Vlan,
@@ -39,7 +39,7 @@ impl Kind {
 }
 
 // A header, or one of the length tests that document 01 gives a name of its own.
-#[derive(Drop)]
+#[derive(Clone, Copy)]
 pub enum Layer {
     Of(Kind),
     Ipv4Packet,
@@ -61,7 +61,7 @@ impl Layer {
 }
 
 // What set a room. UDP's length never does.
-#[derive(Drop)]
+#[derive(Clone, Copy)]
 pub enum RoomSource {
     Slice,
     Ipv4,
@@ -81,7 +81,7 @@ impl RoomSource {
 }
 
 // What set the length that a refusal found too short.
-#[derive(Drop)]
+#[derive(Clone, Copy)]
 pub enum Source {
     Slice,
     Ipv4,

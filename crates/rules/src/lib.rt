@@ -1,5 +1,7 @@
 // What every crate shares: the types of the answers, the numbers of document 01; and document 01's rules, written
 // down once as definitions (specs/). Each function here promises its definition.
+#![tactic(auto)]
+
 mod entry;
 pub mod ether_type;
 pub mod field;

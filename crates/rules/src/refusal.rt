@@ -6,7 +6,7 @@ ghost use Rattle.rules.specs.Test.{bound_by, placed};
 use crate::{Kind, Layer, RoomSource, Source};
 
 // What bounds the bytes that a test counts: the room, or the value of a length field.
-#[derive(Drop)]
+#[derive(Clone, Copy)]
 pub enum Bound {
     Room,
     Ipv4TotalLength,
@@ -27,7 +27,7 @@ impl Bound {
 }
 
 // What a reader can tell from its own bytes.
-#[derive(Drop)]
+#[derive(Clone, Copy)]
 pub enum Fault {
     TooShort {
         required: usize,
@@ -80,7 +80,7 @@ impl Fault {
     }
 }
 
-#[derive(Drop)]
+#[derive(Clone, Copy)]
 pub enum Refusal {
     TooShort {
         offset: usize,
@@ -116,7 +116,7 @@ pub enum Refusal {
 // A refusal as document 01's table has it: its number, its layer's number and its offset, and what else its row
 // carries, in the table's order (required, have, the source's number; or the one value), zeros after that.
 #[repr(C)]
-#[derive(Drop)]
+#[derive(Clone, Copy)]
 pub struct Row {
     pub number: usize,
     pub layer: usize,

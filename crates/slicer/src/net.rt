@@ -12,7 +12,7 @@ use one_header::{
 use rules::{ChainPlace, IpNumber, Kind, Refusal, RoomSource};
 
 // An IP header, where its extensions end and its room ends, and the number that names what follows.
-#[derive(Drop)]
+#[derive(Clone, Copy)]
 pub struct NetFound {
     pub kind: Kind,
     pub begin: usize,
@@ -24,21 +24,21 @@ pub struct NetFound {
     pub mark: bool,
 }
 
-#[derive(Drop)]
+#[derive(Clone, Copy)]
 pub enum NetLeg {
     Open(NetFound),
     Refused(Refusal),
 }
 
 // Where an extension chain ends.
-#[derive(Drop)]
+#[derive(Clone, Copy)]
 pub struct ExtsFound {
     pub at: usize,
     pub number: IpNumber,
     pub mark: bool,
 }
 
-#[derive(Drop)]
+#[derive(Clone, Copy)]
 pub enum ExtsLeg {
     Open(ExtsFound),
     Refused(Refusal),

@@ -7,13 +7,13 @@ use headers::TransportHeader;
 use one_header::{TransportAt, TransportTurn, stop_behind, tcp_at, transport_turn, udp_at};
 use rules::{Ending, Header, IpNumber, Kind, Number, Range, Refusal, RoomSource, Stop};
 
-#[derive(Drop)]
+#[derive(Clone, Copy)]
 pub struct TransportFound {
     pub ending: Ending,
     pub transport: TransportPart,
 }
 
-#[derive(Drop)]
+#[derive(Clone, Copy)]
 pub enum TransportLeg {
     Open(TransportFound),
     Refused(Refusal),

@@ -182,7 +182,7 @@ fn behind_link(s: &[u8], front: LinkFound, kind: IpKind) -> SlicedPacket
 // Any bytes, of any length, get their reply.
 pub fn slice(s: &[u8], entry: Entry) -> SlicedPacket
     ensures reply { packet_on_paper result ≡ reply_of entry s.now }
-    ensures unwritten { s.now ≡ s.now }
+    ensures unwritten { s.exit.now ≡ s.entry.now }
 {
     let leg = slice_link(s, entry);
     match leg {
@@ -221,7 +221,7 @@ impl SlicedPacket {
     // A whole Ethernet II frame, without the frame check sequence.
     pub fn from_ethernet(s: &[u8]) -> Self
         ensures reply { packet_on_paper result ≡ reply_of E.Ethernet s.now }
-        ensures unwritten { s.now ≡ s.now }
+        ensures unwritten { s.exit.now ≡ s.entry.now }
     {
         slice(s, Entry::Ethernet)
     }
@@ -229,7 +229,7 @@ impl SlicedPacket {
     // A packet known to be IPv4.
     pub fn from_ipv4(s: &[u8]) -> Self
         ensures reply { packet_on_paper result ≡ reply_of E.Ipv4 s.now }
-        ensures unwritten { s.now ≡ s.now }
+        ensures unwritten { s.exit.now ≡ s.entry.now }
     {
         slice(s, Entry::Ipv4)
     }
@@ -237,7 +237,7 @@ impl SlicedPacket {
     // A packet known to be IPv6.
     pub fn from_ipv6(s: &[u8]) -> Self
         ensures reply { packet_on_paper result ≡ reply_of E.Ipv6 s.now }
-        ensures unwritten { s.now ≡ s.now }
+        ensures unwritten { s.exit.now ≡ s.entry.now }
     {
         slice(s, Entry::Ipv6)
     }

@@ -14,14 +14,14 @@ use crate::place::{first, room_behind};
 use one_header::{HeaderRead, header_at};
 use rules::{Entry, HEADER_WORDS, Header, Refusal, Turn};
 
-#[derive(Drop)]
+#[derive(Clone, Copy)]
 pub enum HeaderAnswer {
     Is(Header),
     NoMore,
     Refused(Refusal),
 }
 
-#[derive(Drop)]
+#[derive(Clone, Copy)]
 pub enum CountAnswer {
     Is(usize),
     Refused(Refusal),
@@ -65,7 +65,7 @@ fn listed(count: usize, k: usize, room: usize) -> usize
 pub fn headers(s: &[u8], entry: Entry, k: usize, out: &mut [usize]) -> CountAnswer
     ensures answer { count_on_paper result ≡ count_of (slices entry s.now) }
     ensures listed { out.new ≡ list_of (slices entry s.now) k (length out.old) }
-    ensures unwritten { s.now ≡ s.now }
+    ensures unwritten { s.exit.now ≡ s.entry.now }
 {
     let begin = first(s, entry);
     let mut kind = begin.kind;
@@ -119,7 +119,7 @@ pub fn headers(s: &[u8], entry: Entry, k: usize, out: &mut [usize]) -> CountAnsw
 // Header number k of a frame.
 pub fn header(s: &[u8], entry: Entry, k: usize) -> HeaderAnswer
     ensures answer { header_on_paper result ≡ header_of (slices entry s.now) k }
-    ensures unwritten { s.now ≡ s.now }
+    ensures unwritten { s.exit.now ≡ s.entry.now }
 {
     let mut one: [usize; HEADER_WORDS] = [0; HEADER_WORDS];
     let counted = headers(s, entry, k, &mut one);
@@ -141,7 +141,7 @@ pub fn header(s: &[u8], entry: Entry, k: usize) -> HeaderAnswer
 // How many headers a frame has.
 pub fn count(s: &[u8], entry: Entry) -> CountAnswer
     ensures answer { count_on_paper result ≡ count_of (slices entry s.now) }
-    ensures unwritten { s.now ≡ s.now }
+    ensures unwritten { s.exit.now ≡ s.entry.now }
 {
     let mut none: [usize; 0] = [];
     headers(s, entry, 0, &mut none)

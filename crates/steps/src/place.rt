@@ -10,7 +10,7 @@ use rules::ip_number::IP_LIMIT;
 use rules::{Ending, Entry, Kind, Place, Range, Refusal, Room, RoomSource, Turn};
 
 // What the header at a place leads to: the next place, the walk's end, or a refusal, the header's own or that of what it names.
-#[derive(Drop)]
+#[derive(Clone, Copy)]
 pub enum Step {
     Next { len: usize, place: Place },
     Last { len: usize, ending: Ending },
@@ -89,7 +89,7 @@ fn minus(a: usize, b: usize) -> usize
 // The place of a frame's first header.
 pub fn first(s: &[u8], entry: Entry) -> Place
     ensures answer { opens (nextPlace result) ≡ opens (opening entry s.now) }
-    ensures unwritten { s.now ≡ s.now }
+    ensures unwritten { s.exit.now ≡ s.entry.now }
 {
     let kind = first_kind(entry);
     let room = Room {
@@ -106,7 +106,7 @@ pub fn first(s: &[u8], entry: Entry) -> Place
 // Reads the header at a place, and no other.
 pub fn next(s: &[u8], place: Place) -> Step
     ensures answer { step_on_paper result ≡ step_says s.now place }
-    ensures unwritten { s.now ≡ s.now }
+    ensures unwritten { s.exit.now ≡ s.entry.now }
 {
     let room = place.room;
     let at = place.at;

@@ -5,14 +5,14 @@ ghost use Rattle.tcp_options.specs.Paper.{refusal_on_paper};
 use crate::kind::OptionKind;
 
 // "A listed option is its kind, offset and size". Offsets count from the start of the lent slice.
-#[derive(Drop)]
+#[derive(Clone, Copy)]
 pub struct TcpOption {
     pub at: usize,
     pub len: usize,
     pub kind: OptionKind,
 }
 
-#[derive(Drop)]
+#[derive(Clone, Copy)]
 pub enum OptionRefusal {
     NoLengthByte { offset: usize },
     // a length below 2 or past the end
@@ -23,7 +23,7 @@ pub enum OptionRefusal {
 
 // A refusal as document 01's table has it: its number, and the option's offset, which is all that it carries.
 #[repr(C)]
-#[derive(Drop)]
+#[derive(Clone, Copy)]
 pub struct OptionRow {
     pub number: usize,
     pub offset: usize,
@@ -41,7 +41,7 @@ impl OptionRefusal {
     }
 }
 
-#[derive(Drop)]
+#[derive(Clone, Copy)]
 pub enum OptionAnswer {
     Is(TcpOption),
     NoMore,

@@ -41,7 +41,7 @@ pub const LEN_SELECTIVE_ACK_4: usize = 34;
 // What every option but NOOP has at least: its kind and its length byte.
 pub const LEN_LEAST: usize = 2;
 
-#[derive(Drop)]
+#[derive(Clone, Copy)]
 pub enum OptionKind {
     Noop,
     MaximumSegmentSize,

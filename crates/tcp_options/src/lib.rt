@@ -1,5 +1,7 @@
 // TCP options by number, from a lent slice that holds what follows byte 20 of a TCP header. The slice may have any length and hold any
 // bytes. What stands before a refused option is listed all the same.
+#![tactic(auto)]
+
 ghost use Rattle.std.specs.Prelude.{◌≡◌, drop};
 ghost use Rattle.tcp_options.specs.Options.{sound, read, options, answer_by, option_of};
 ghost use Rattle.tcp_options.specs.Paper.{option_on_paper};
@@ -61,7 +63,7 @@ fn read_option(s: &[u8], at: usize) -> OptionAnswer
 // answer is the one for every later place too.
 pub fn option(s: &[u8], k: usize) -> OptionAnswer
     ensures answer { option_on_paper result ≡ option_of (options s.now) k }
-    ensures unwritten { s.now ≡ s.now }
+    ensures unwritten { s.exit.now ≡ s.entry.now }
 {
     let mut at: usize = 0;
     let mut place: usize = 0;

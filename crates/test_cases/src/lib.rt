@@ -1,4 +1,5 @@
 // What the programs with lists of cases share: a list is text; its cases are compared, and each outcome is printed and counted.
+#![tactic(auto)]
 mod agree;
 mod compare;
 mod list;

@@ -19,7 +19,7 @@ use rules::Entry;
 const ROOM: usize = 65600;
 
 // Between two lines: how many bytes are there, the sum of the slices added, and the count of the cases.
-#[derive(Drop)]
+#[derive(Clone, Copy)]
 struct State {
     used: usize,
     sum: Sum16BitWords,

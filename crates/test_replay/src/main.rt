@@ -2,6 +2,7 @@
 // on standard input is made by compare/replay: a case is the entry's number, the frame's length in two bytes and the frame, the answer's
 // length in two bytes and the answer.
 // Where a read fails there is nothing to report, and standard error says so.
+#![tactic(auto)]
 ghost use Rattle.std.specs.Prelude.{ℕ, ◌≤◌, ◌≡◌, length};
 ghost use Rattle.test_replay.specs.declared.Part.TheVariants.{Is};
 
@@ -13,7 +14,7 @@ const MOST: usize = 65_536;
 
 // What comes next on standard input: a case, whose answer is the same or differs; the list's end; the begin of a case, not whole; or a
 // read failed.
-#[derive(Drop)]
+#[derive(Clone, Copy)]
 enum Next {
     Compared(bool),
     End,
@@ -23,7 +24,7 @@ enum Next {
 
 // A part of a case: its bytes are the first so many of the room; or they aren't all there, or are more than the room has; or a read
 // failed.
-#[derive(Drop)]
+#[derive(Clone, Copy)]
 enum Part {
     Is(usize),
     Cut,
@@ -31,7 +32,7 @@ enum Part {
 }
 
 // How a list ended: behind its last case, inside a case, or not where the comparison did.
-#[derive(Drop)]
+#[derive(Clone, Copy)]
 enum End {
     Whole,
     Cut,
@@ -39,7 +40,7 @@ enum End {
 }
 
 // What was seen of a list. `first` is the number of the first case that differs, from 1, and 0 where none does.
-#[derive(Drop)]
+#[derive(Clone, Copy)]
 struct Seen {
     compared: usize,
     same: usize,
@@ -47,7 +48,7 @@ struct Seen {
     end: End,
 }
 
-#[derive(Drop)]
+#[derive(Clone, Copy)]
 enum Replayed {
     Seen(Seen),
     Failed,

@@ -11,7 +11,7 @@ use rules::{EtherType, Kind, field, length};
 // `ETH-1`, `ETH-2`
 pub fn read_ethernet2(w: &[u8]) -> LinkRead
     ensures answer { (v : ℕ) → link_on_paper result ≡ link_says K.Ethernet2 v w.now }
-    ensures unwritten { w.now ≡ w.now }
+    ensures unwritten { w.exit.now ≡ w.entry.now }
 {
     let have = w.len();
     if have < length::ETHERNET2 {

@@ -5,7 +5,7 @@ pub mod ethernet2_header;
 pub mod single_vlan_header;
 
 // A whole header names an EtherType.
-#[derive(Drop)]
+#[derive(Clone, Copy)]
 pub enum LinkRead {
     Whole(EtherType),
     Refused(Fault),

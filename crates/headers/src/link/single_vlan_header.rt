@@ -11,7 +11,7 @@ use rules::{EtherType, Kind, field, length};
 // `VLAN-1`, `VLAN-2`
 pub fn read_vlan(w: &[u8]) -> LinkRead
     ensures answer { (v : ℕ) → link_on_paper result ≡ link_says K.Vlan v w.now }
-    ensures unwritten { w.now ≡ w.now }
+    ensures unwritten { w.exit.now ≡ w.entry.now }
 {
     let have = w.len();
     if have < length::VLAN {

@@ -11,7 +11,7 @@ use rules::{Fault, Fragment, IpNumber, Kind, field, length};
 // `AUTH-1` to `AUTH-4`
 pub fn read_auth(w: &[u8]) -> ExtRead
     ensures answer { (v : ℕ) → ext_on_paper result ≡ ext_says K.Auth v w.now }
-    ensures unwritten { w.now ≡ w.now }
+    ensures unwritten { w.exit.now ≡ w.entry.now }
 {
     let have = w.len();
     if have < length::AUTH {

@@ -11,7 +11,7 @@ use rules::{Bound, Fault, Fragment, IpNumber, Kind, Layer, field, length};
 // `IP4-1` to `IP4-8`
 pub fn read_ipv4(w: &[u8]) -> IpRead
     ensures answer { (v : ℕ) → ip_on_paper result ≡ ip_says K.Ipv4 v w.now }
-    ensures unwritten { w.now ≡ w.now }
+    ensures unwritten { w.exit.now ≡ w.entry.now }
 {
     let have = w.len();
     if have < length::IPV4 {

@@ -11,7 +11,7 @@ use rules::{Fragment, IpNumber, Kind, field, length};
 // `FRAG-1` to `FRAG-3`
 pub fn read_fragment(w: &[u8]) -> ExtRead
     ensures answer { (v : ℕ) → ext_on_paper result ≡ ext_says K.Fragment v w.now }
-    ensures unwritten { w.now ≡ w.now }
+    ensures unwritten { w.exit.now ≡ w.entry.now }
 {
     let have = w.len();
     if have < length::FRAGMENT {

@@ -11,7 +11,7 @@ use rules::{Bound, Fault, Fragment, IpNumber, Kind, Layer, field, length};
 // `IP6-1` to `IP6-4`
 pub fn read_ipv6(w: &[u8]) -> IpRead
     ensures answer { (v : ℕ) → ip_on_paper result ≡ ip_says K.Ipv6 v w.now }
-    ensures unwritten { w.now ≡ w.now }
+    ensures unwritten { w.exit.now ≡ w.entry.now }
 {
     let have = w.len();
     if have < length::IPV6 {

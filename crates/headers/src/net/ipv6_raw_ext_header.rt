@@ -12,7 +12,7 @@ use rules::{Fragment, IpNumber, Kind, field, length};
 // `RAW-1` to `RAW-3`
 pub fn read_raw_ext(w: &[u8], kind: Kind) -> ExtRead
     ensures answer { (v : ℕ) → ext_on_paper result ≡ raw_says kind v w.now }
-    ensures unwritten { w.now ≡ w.now }
+    ensures unwritten { w.exit.now ≡ w.entry.now }
 {
     let have = w.len();
     if have < length::RAW_EXT {

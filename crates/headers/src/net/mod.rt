@@ -7,7 +7,7 @@ pub mod ipv6_fragment_header;
 pub mod ipv6_header;
 pub mod ipv6_raw_ext_header;
 
-#[derive(Drop)]
+#[derive(Clone, Copy)]
 pub struct IpHeader {
     pub names: IpNumber,
     pub fragment: Fragment,
@@ -16,20 +16,20 @@ pub struct IpHeader {
     pub declared: usize,
 }
 
-#[derive(Drop)]
+#[derive(Clone, Copy)]
 pub enum IpRead {
     Whole(IpHeader),
     Refused(Fault),
 }
 
-#[derive(Drop)]
+#[derive(Clone, Copy)]
 pub struct ExtHeader {
     pub names: IpNumber,
     pub len: usize,
     pub fragment: Fragment,
 }
 
-#[derive(Drop)]
+#[derive(Clone, Copy)]
 pub enum ExtRead {
     Whole(ExtHeader),
     Refused(Fault),

@@ -4,14 +4,14 @@ use rules::Fault;
 pub mod tcp_header;
 pub mod udp_header;
 
-#[derive(Drop)]
+#[derive(Clone, Copy)]
 pub struct TransportHeader {
     pub len: usize,
     // where the payload ends, counted from the header
     pub end: usize,
 }
 
-#[derive(Drop)]
+#[derive(Clone, Copy)]
 pub enum TransportRead {
     Whole(TransportHeader),
     Refused(Fault),

@@ -10,7 +10,7 @@ use rules::{Fault, Kind, field, length};
 // `TCP-1` to `TCP-5`
 pub fn read_tcp(w: &[u8]) -> TransportRead
     ensures answer { (v : ℕ) → transport_on_paper result ≡ tcp_says v w.now }
-    ensures unwritten { w.now ≡ w.now }
+    ensures unwritten { w.exit.now ≡ w.entry.now }
 {
     let have = w.len();
     if have < length::TCP {

@@ -10,7 +10,7 @@ use rules::{Bound, Fault, Kind, Layer, field, length};
 // `UDP-1` to `UDP-5`
 pub fn read_udp(w: &[u8]) -> TransportRead
     ensures answer { (v : ℕ) → transport_on_paper result ≡ udp_says v w.now }
-    ensures unwritten { w.now ≡ w.now }
+    ensures unwritten { w.exit.now ≡ w.entry.now }
 {
     let have = w.len();
     if have < length::UDP {

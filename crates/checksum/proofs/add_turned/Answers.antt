@@ -1,0 +1,9 @@
+-- `add_turned` meets its contract. Assumes nothing.
+use mathlib.Core.Path.{◌∙◌}
+use Rattle.checksum.specs.Laws.{fold-base}
+use Rattle.std.proofs.Common.{rules}
+use Rattle.checksum.proofs.add_turned.Goals as goal
+
+pub returns : goal.returns
+returns c =
+    c.folded-2.ensures ∙ rw c.folded.ensures (fold-base _ _)

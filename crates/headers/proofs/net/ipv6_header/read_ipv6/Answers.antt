@@ -1,0 +1,36 @@
+-- `net::ipv6_header::read_ipv6` meets its contract. Assumes nothing.
+use Rattle.rules.specs.Test.{beyond}
+use borrow.Author.Tests.{eq-eqb, ne_eqb}
+use mathlib.Core.Path.{refl}
+use Rattle.rules.specs.Rules.{says, tests_by, seen_by}
+use Rattle.rules.specs.Test.{on, off, done, judged}
+use native.Mathlib.Omega.{arith}
+use Rattle.std.proofs.Common.{rules}
+use Rattle.headers.proofs.net.ipv6_header.read_ipv6.Goals as goal
+
+pub returns-then-have-lt-IPV6-clause-answer : goal.returns-then-have-lt-IPV6-clause-answer
+unfolding says tests_by seen_by
+returns-then-have-lt-IPV6-clause-answer c =
+    λ v. judged (off (beyond c.if-have-lt-IPV6.true) c.too_short.ensures)
+
+pub returns-then-version-ne6-clause-answer : goal.returns-then-version-ne6-clause-answer
+unfolding says tests_by seen_by
+returns-then-version-ne6-clause-answer c =
+    λ v. simp (← c.byte.ensures.answer) (judged (on c.if-have-lt-IPV6.false (off c.if-version-ne6.true (refl))))
+
+pub returns-then-payload-eq0-clause-answer : goal.returns-then-payload-eq0-clause-answer
+unfolding says tests_by seen_by
+returns-then-payload-eq0-clause-answer c =
+    λ v. simp (← c.byte.ensures.answer, ← c.be16-payload.ensures.answer, ← c.byte-2.ensures.answer, eq-eqb _ 0 c.if-payload-eq0.true) (judged (on c.if-have-lt-IPV6.false (on
+    c.if-version-ne6.false (on (omega arith) (done (refl))))))
+
+pub returns-then-have-declared-clause-answer : goal.returns-then-have-declared-clause-answer
+unfolding says tests_by seen_by
+returns-then-have-declared-clause-answer c =
+    λ v. simp (← c.byte.ensures.answer, ← c.be16-payload.ensures.answer) (judged (on c.if-have-lt-IPV6.false (on c.if-version-ne6.false (off (beyond c.if-have-declared.true) refl))))
+
+pub returns-clause-answer : goal.returns-clause-answer
+unfolding says tests_by seen_by
+returns-clause-answer c =
+    λ v. simp (← c.byte.ensures.answer, ← c.be16-payload.ensures.answer, ← c.byte-2.ensures.answer, ne_eqb _ 0 c.if-payload-eq0.false) (judged (on c.if-have-lt-IPV6.false (on
+    c.if-version-ne6.false (on c.if-have-declared.false (done (refl))))))
