@@ -2,6 +2,7 @@
 // the legs of crate slicer call it with a kind that they know, the step of crate steps with any. Each function is handed the bytes
 // from the header to its room's end, asks nothing of them, and counts from the header what it answers.
 #![tactic(auto)]
+
 mod ext;
 mod header;
 mod ip;
