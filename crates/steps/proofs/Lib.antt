@@ -1,4 +1,4 @@
 -- Laws that several proofs of this crate cite.
-pub mod Step
+pub mod Turned
 pub mod Written
 pub mod Loop

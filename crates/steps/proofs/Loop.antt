@@ -37,7 +37,7 @@ use Rattle.laws.specs.Zeros.{zeros}
 use Rattle.steps.specs.Lists.{headers_read, headers_listed, written_from, list_of}
 use Rattle.steps.specs.Kept.{kept, written-kept}
 use Rattle.steps.specs.Places.{opens, opens-there}
-use Rattle.steps.proofs.Step.{ReadAs, reading, sizes}
+use Rattle.steps.proofs.Turned.{ReadAs, reading, sizes}
 use Rattle.steps.proofs.Written.{written-length, written_none, written_more, written_full, written_early, one_written}
 
 -- ---- the walk itself, gathered header by header

@@ -2,15 +2,11 @@
 use Prim.Native.Nat.{ℕ, suc, ◌+◌, ◌-◌, ◌≤◌}
 use mathlib.Core.Path.{◌≡◌, refl, sym, ap, ◌∙◌}
 use mathlib.Core.List.{List, [], ◌∷◌}
-use mathlib.Core.Logic.{⊎_elim}
 use native.Mathlib.Omega.{arith}
 use lib.ListN.{length, drop, length-drop}
-use types.Run.{OneOf}
-use denote.Enum.Declared.{tag_of}
 use Rattle.tcp_options.specs.declared.answer.TcpOption.{TcpOption}
 use Rattle.tcp_options.specs.declared.answer.OptionAnswer.{OptionAnswer}
 use Rattle.tcp_options.specs.declared.answer.OptionAnswer.TheVariants as A
-use Rattle.tcp_options.specs.contracts.answer.OptionAnswer.{the_type}
 use Rattle.tcp_options.specs.Options.{OptionRead, lists, ends, refuses, read, Listed, listed, options, no-more, option_of, answer_by}
 use Rattle.tcp_options.specs.Paper.{kind_on_paper, option_on_paper}
 use Rattle.tcp_options.specs.OneOption.{lists_fits, from, behind, from_lists, from-ends, from_refuses}
@@ -36,11 +32,11 @@ module _ {s : List ℕ} {k at place : ℕ} (g : Going s k at place) where
   unfolding option_of
   refused_is n e = rw (from_refuses s at n e) at g.same
 
-  pub going_last : (a : OptionAnswer) → option_on_paper a ≡ answer_by at (read (drop at s)) → OneOf (1 ∷ 2 ∷ []) (tag_of the_type a) → option_on_paper a ≡ option_of (options s) k
+  pub going_last : (a : OptionAnswer) → option_on_paper a ≡ answer_by at (read (drop at s)) → ((o : TcpOption) → a ≡ A.Is o → ⊥) → option_on_paper a ≡ option_of (options s) k
   going_last a e t = go a t (read (drop at s)) refl e
     where
-      go : (a : OptionAnswer) → OneOf (1 ∷ 2 ∷ []) (tag_of the_type a) → (r : OptionRead) → read (drop at s) ≡ r → option_on_paper a ≡ answer_by at r → option_on_paper a ≡ option_of (options s) k
-      go (A.Is o) t r p e = absurd (⊎_elim (λ z. omega arith) (λ z. omega arith) t)
+      go : (a : OptionAnswer) → ((o : TcpOption) → a ≡ A.Is o → ⊥) → (r : OptionRead) → read (drop at s) ≡ r → option_on_paper a ≡ answer_by at r → option_on_paper a ≡ option_of (options s) k
+      go (A.Is o) t r p e = absurd (t o refl)
       go A.NoMore t (lists kind size) p e = absurd (let z : ◌≡◌ {A = ℕ} 0 1 = cc in omega arith)
       go A.NoMore t ends p e = ended_is p
       go A.NoMore t (refuses n) p e = absurd (let z : ◌≡◌ {A = ℕ} 0 1 = cc in omega arith)

@@ -26,3 +26,7 @@ loop-found-smaller c =
 pub loop-found-preserved : goal.loop-found-preserved
 loop-found-preserved c =
     going_on c.loop-found.invariant c.read_option-answer.ensures c.in-Is.is c.if-place-k.false
+
+pub returns-in_default-clause-answer : goal.returns-in_default-clause-answer
+returns-in_default-clause-answer c =
+    going_last c.loop-found.invariant c.read_option-answer.result c.read_option-answer.ensures c.in_default.not-Is

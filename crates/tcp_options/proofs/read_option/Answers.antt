@@ -55,7 +55,7 @@ returns-then-not-length_is_sound c =
     c.if-number-eq-NOOP.false
     c.if-have-lt-LEN_LEAST.false
     c.byte-len.ensures.answer
-    (sym c.is_sound-length_is_sound.ensures ∙ not-true _ c.if-not-length_is_sound.true)))
+    (sym c.is_sound-length_is_sound.ensures ∙ c.if-not-length_is_sound.true)))
 
 pub returns-then-not-size_is_right : goal.returns-then-not-size_is_right
 returns-then-not-size_is_right c =
@@ -71,8 +71,8 @@ returns-then-not-size_is_right c =
     c.if-number-eq-NOOP.false
     c.if-have-lt-LEN_LEAST.false
     c.byte-len.ensures.answer
-    (sym c.is_sound-length_is_sound.ensures ∙ not-false _ c.if-not-length_is_sound.false)
-    (sym c.has_size-size_is_right.ensures ∙ not-true _ c.if-not-size_is_right.true)))
+    (sym c.is_sound-length_is_sound.ensures ∙ c.if-not-length_is_sound.false)
+    (sym c.has_size-size_is_right.ensures ∙ c.if-not-size_is_right.true)))
 
 pub returns : goal.returns
 returns c =
@@ -88,5 +88,5 @@ returns c =
     c.if-number-eq-NOOP.false
     c.if-have-lt-LEN_LEAST.false
     c.byte-len.ensures.answer
-    (sym c.is_sound-length_is_sound.ensures ∙ not-false _ c.if-not-length_is_sound.false)
-    (sym c.has_size-size_is_right.ensures ∙ not-false _ c.if-not-size_is_right.false)))
+    (sym c.is_sound-length_is_sound.ensures ∙ c.if-not-length_is_sound.false)
+    (sym c.has_size-size_is_right.ensures ∙ c.if-not-size_is_right.false)))

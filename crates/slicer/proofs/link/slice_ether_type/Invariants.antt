@@ -1,0 +1,16 @@
+-- `link::slice_ether_type` meets its contract. Assumes nothing.
+use Rattle.slicer.proofs.Links.{Tagging, tags_first, tag-cut, tag_in, tag_few, tag_on, tags_done}
+use Rattle.slicer.specs.Legs.{on_link, went, stuck}
+use Rattle.one_header.specs.At.{link_at_on_paper}
+use Rattle.rules.specs.Numbers.{ethernet_length}
+use mathlib.Core.Path.{refl, ap}
+use native.Mathlib.Omega.{arith}
+use lib.ListN.{length}
+use Prim.Native.Nat.{◌-◌}
+use Rattle.slicer.proofs.link.slice_ether_type.Given as goal
+
+abbrev pub invariant-loop-turn : goal.invariant-loop-turn
+invariant-loop-turn l = Tagging l.s (on_link l.s 0 l.initial.number ethernet_length) l.number l.at l.tags
+
+abbrev pub decreases-loop-turn : goal.decreases-loop-turn
+decreases-loop-turn l = length l.s - l.at

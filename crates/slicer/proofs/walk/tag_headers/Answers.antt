@@ -1,0 +1,28 @@
+-- `walk::tag_headers` meets its contract. Assumes nothing.
+use Rattle.slicer.proofs.Slices.{filled, filled_none, filled_next, filled_last}
+use Rattle.slicer.specs.Reply.{slots}
+use Rattle.slicer.specs.Legs.{tags_from}
+use Rattle.rules.specs.Numbers.{ethernet_length, tag_length, tag_limit}
+use Rattle.rules.specs.Named.{kind_number}
+use Rattle.rules.specs.declared.kind.Kind.TheVariants.{Vlan}
+use mathlib.Core.Logic.{⊎_elim}
+use mathlib.Core.Path.{◌≡◌, refl, ap, ◌∙◌}
+use native.Mathlib.Omega.{arith}
+use Prim.Native.Nat.{ℕ, ◌+◌, ◌-◌, ◌*◌, ◌≤◌}
+use Rattle.std.proofs.Common.{rules}
+use Rattle.slicer.proofs.walk.tag_headers.Goals as goal
+
+pub loop-i-init : goal.loop-i-init
+unfolding slots tags_from
+loop-i-init c =
+    (omega arith, refl, rw c.no_header-tags.ensures (filled_none c.args.count), c.number-kind.ensures)
+
+pub loop-i-preserved : goal.loop-i-preserved
+loop-i-preserved c = (
+  omega arith,
+  omega arith,
+  ⊎_elim (λ w. w.1 ∙ rw (c.loop-i.invariant.2, c.loop-i.invariant.1, c.loop-i.invariant.3) (filled_next c.loop-i.i c.args.count
+      c.loop-i-test.true w.0.taken)) (λ w. w.1 ∙ c.loop-i.invariant.2 ∙ filled_last c.loop-i.i c.args.count w.0.left)
+      c.if-i-count.branch,
+  c.loop-i.invariant.3,
+)
