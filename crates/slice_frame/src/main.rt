@@ -51,9 +51,10 @@ fn answer(text: &[u8]) {
     }
 }
 
-fn main() {
+fn main(rt: HostRuntime) {
+    let mut stdin = rt.stdin();
     let mut frame = room();
-    let input = input::read(&mut frame);
+    let input = input::read(&mut stdin, &mut frame);
     let Input::Came(have) = input else {
         io::write_all(2, b"slice_frame: standard input can't be read\n");
         return;
