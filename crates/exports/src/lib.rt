@@ -2,6 +2,7 @@
 // any number of an entry. No bytes lent are written, only the numbers lent to `bhirkulom_headers`. `lib/build` makes the archive,
 // with crate `exports_by_number`; `bin/check-interface` holds the C header and the Rust crate to these functions.
 #![tactic(auto)]
+
 ghost use Rattle.std.specs.Prelude.{◌≡◌, length};
 ghost use Rattle.checksum.specs.Sum.{add_slice, answer, without_zero};
 ghost use Rattle.tcp_options.specs.Options.{options, option_of};
