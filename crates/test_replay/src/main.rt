@@ -3,6 +3,7 @@
 // length in two bytes and the answer.
 // Where a read fails there is nothing to report, and standard error says so.
 #![tactic(auto)]
+
 ghost use Rattle.std.specs.Prelude.{ℕ, ◌≤◌, ◌≡◌, length};
 ghost use Rattle.test_replay.specs.declared.Part.TheVariants.{Is};
 
