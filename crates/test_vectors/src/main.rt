@@ -1,6 +1,7 @@
 // Runs the vectors: document 01's frames and sums, published ones, and the frames at every length test of the link and IP headers, each
 // with the answer that must come. Prints a line for each group of cases, and at the end how many were compared and how many were the same.
 #![tactic(auto)]
+
 mod edges_ip;
 mod edges_link;
 mod frames;

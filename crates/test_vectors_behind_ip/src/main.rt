@@ -1,6 +1,7 @@
 // Runs the frames at every length test of the headers behind an IP header, each with the answer that must come, and prints as `test_vectors`
 // does. It is a program of its own because one with all the lists would take too long to check.
 #![tactic(auto)]
+
 mod exts;
 mod transport;
 
