@@ -1,6 +1,5 @@
--- `show` meets its contract. Assumes nothing.
-use Prim.Native.Nat.{◌-◌}
-use lib.ListN.{length}
+-- What the loop of `show` keeps, and why it ends.
+use Rattle.std.proofs.Common.{◌-◌, length}
 use Rattle.test_options.proofs.show.Given as goal
 
 abbrev pub invariant-loop-k : goal.invariant-loop-k
