@@ -1,6 +1,7 @@
 // Header k and the count for C and Rust programs: the list of crate `exports` with room for one header and for none. A crate of its
 // own, since the walk over the headers is taken in by its caller only where it has one in what is compiled together (docs/SPEED.md).
 #![tactic(auto)]
+
 ghost use Rattle.std.specs.Prelude.{◌≡◌, eqb};
 ghost use Rattle.rules.specs.Test.{pick};
 ghost use Rattle.exports.specs.Handed.{there, no_more, entry_by, header_for, count_for};
