@@ -1,7 +1,6 @@
 -- `count` meets its contract: the theorems of specs, at the answer that the slicer promises. Assumes nothing.
 use Rattle.chain.specs.Headers.{count_is_length}
 use Rattle.chain.specs.Refused.{count_refused_for_a_reason}
-use Rattle.std.proofs.Common.{rules}
 use Rattle.chain.proofs.count.Goals as goal
 
 pub returns-clause-counted : goal.returns-clause-counted

@@ -1,7 +1,6 @@
 -- `outcome` meets its contract: the theorems of specs, at the answer that the slicer promises. Assumes nothing.
 use Rattle.chain.specs.Accepted.{accepted_iff_chain}
 use Rattle.chain.specs.Refused.{reply_refused_for_a_reason}
-use Rattle.std.proofs.Common.{rules}
 use Rattle.chain.proofs.outcome.Goals as goal
 
 pub returns-clause-accepted : goal.returns-clause-accepted

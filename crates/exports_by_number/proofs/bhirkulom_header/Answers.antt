@@ -1,8 +1,6 @@
 -- `bhirkulom_header` meets its contract. Assumes nothing.
-use mathlib.Core.Path.{refl}
 use Rattle.exports.specs.Handed.{entry_by}
 use Rattle.exports_by_number.proofs.HeaderK.{header-here, header_past}
-use Rattle.std.proofs.Common.{rules}
 use Rattle.exports_by_number.proofs.bhirkulom_header.Goals as goal
 
 pub returns-then-k-counted-clause-answer : goal.returns-then-k-counted-clause-answer

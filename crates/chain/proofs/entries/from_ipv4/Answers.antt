@@ -1,7 +1,6 @@
 -- `entries::from_ipv4` meets its contract: the theorem of specs, at the answer that is promised. Assumes nothing.
 use Rattle.chain.specs.Accepted.{accepted_iff_chain}
 use Rattle.chain.specs.Refused.{reply_refused_for_a_reason}
-use Rattle.std.proofs.Common.{rules}
 use Rattle.chain.proofs.entries.from_ipv4.Goals as goal
 
 pub returns-clause-accepted : goal.returns-clause-accepted

@@ -1,7 +1,6 @@
 -- `entries::reply` meets its contract: the theorem of specs, at the answer that is promised. Assumes nothing.
 use mathlib.Core.Path.{◌∙◌}
 use Rattle.chain.specs.Alike.{alike_reply}
-use Rattle.std.proofs.Common.{rules}
 use Rattle.chain.proofs.entries.reply.Goals as goal
 
 pub returns : goal.returns

@@ -1,6 +1,5 @@
 -- `exported::headers` meets its contract: the theorem of specs, at the answer that is promised. Assumes nothing.
 use Rattle.chain.specs.Exported.{count_by, list_by}
-use Rattle.std.proofs.Common.{rules}
 use Rattle.chain.proofs.exported.headers.Goals as goal
 
 pub returns-clause-counted : goal.returns-clause-counted

@@ -1,7 +1,6 @@
 -- `exported::no_zero_sum_of` meets its contract: the theorem of specs, at the answer that is promised. Assumes nothing.
 use Rattle.checksum.specs.declared.Sum16BitWords.{Sum16BitWords}
 use Rattle.chain.specs.Frames.{none_summed, with_slice, no_zero-told}
-use Rattle.std.proofs.Common.{rules}
 use Rattle.chain.proofs.exported.no_zero_sum_of.Goals as goal
 
 pub returns : goal.returns

@@ -1,6 +1,5 @@
 -- `exported::slice` meets its contract: the theorem of specs, at the answer that is promised. Assumes nothing.
 use Rattle.chain.specs.Exported.{packet-by}
-use Rattle.std.proofs.Common.{rules}
 use Rattle.chain.proofs.exported.slice.Goals as goal
 
 pub returns : goal.returns

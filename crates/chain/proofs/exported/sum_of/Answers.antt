@@ -1,7 +1,6 @@
 -- `exported::sum_of` meets its contract: the theorem of specs, at the answer that is promised. Assumes nothing.
 use Rattle.checksum.specs.declared.Sum16BitWords.{Sum16BitWords}
 use Rattle.chain.specs.Frames.{none_summed, with_slice, sum_told}
-use Rattle.std.proofs.Common.{rules}
 use Rattle.chain.proofs.exported.sum_of.Goals as goal
 
 pub returns : goal.returns

@@ -1,7 +1,6 @@
 -- `lists::headers` meets its contract: the theorem of specs, at the answer that is promised. Assumes nothing.
 use Rattle.chain.specs.Headers.{count_is_length, list_in_order}
 use Rattle.chain.specs.Refused.{count_refused_for_a_reason}
-use Rattle.std.proofs.Common.{rules}
 use Rattle.chain.proofs.lists.headers.Goals as goal
 
 pub returns-clause-counted : goal.returns-clause-counted

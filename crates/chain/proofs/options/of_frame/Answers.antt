@@ -1,6 +1,5 @@
 -- `options::of_frame` meets its contract: the theorem of specs, at the answer that is promised. Assumes nothing.
 use Rattle.chain.specs.TcpOptions.{options_of_chain}
-use Rattle.std.proofs.Common.{rules}
 use Rattle.chain.proofs.options.of_frame.Goals as goal
 
 pub returns : goal.returns

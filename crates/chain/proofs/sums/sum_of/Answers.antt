@@ -1,6 +1,5 @@
 -- `sums::sum_of` meets its contract: the theorem of specs, at the answer that is promised. Assumes nothing.
 use Rattle.chain.specs.Frames.{from-none, with_slice, sum_told}
-use Rattle.std.proofs.Common.{rules}
 use Rattle.chain.proofs.sums.sum_of.Goals as goal
 
 pub returns : goal.returns

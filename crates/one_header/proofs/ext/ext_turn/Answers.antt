@@ -1,7 +1,6 @@
 -- `ext::ext_turn` meets its contract. Assumes nothing.
 use Rattle.one_header.specs.Turns.{ext_turn}
 use borrow.Author.Tests.{eq-eqb, ne_eqb}
-use Rattle.std.proofs.Common.{rules}
 use Rattle.one_header.proofs.ext.ext_turn.Goals as goal
 
 pub returns-in-Directly : goal.returns-in-Directly

@@ -1,7 +1,6 @@
 -- `kind::kind_of` meets its contract. Assumes nothing.
 use Rattle.tcp_options.specs.Options.{named}
 use Rattle.tcp_options.proofs.Sizes.{named_unknown}
-use Rattle.std.proofs.Common.{rules}
 use Rattle.tcp_options.proofs.kind.kind_of.Goals as goal
 
 pub returns-then-number-eq-NOOP : goal.returns-then-number-eq-NOOP

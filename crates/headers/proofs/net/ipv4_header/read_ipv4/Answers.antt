@@ -3,8 +3,6 @@ use Rattle.rules.specs.Test.{beyond}
 use mathlib.Core.Path.{refl}
 use Rattle.rules.specs.Rules.{says, tests_by, seen_by}
 use Rattle.rules.specs.Test.{on, off, done, judged}
-use native.Mathlib.Omega.{arith}
-use Rattle.std.proofs.Common.{rules}
 use Rattle.headers.proofs.net.ipv4_header.read_ipv4.Goals as goal
 
 pub returns-then-have-lt-IPV4-clause-answer : goal.returns-then-have-lt-IPV4-clause-answer
