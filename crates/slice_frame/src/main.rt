@@ -3,6 +3,7 @@
 // nothing is printed, whatever arrived before it, and standard error says so. It says too where the answer can't be written.
 // A proved program has no exit status of its own: bin/slice gives 2 where there is no answer.
 #![tactic(auto)]
+
 ghost use Rattle.std.specs.Prelude.{◌≤◌, ◌≡◌, length, take};
 ghost use Rattle.rules.specs.declared.entry.Entry.TheVariants.{Ethernet};
 ghost use Rattle.printing.specs.Text.{text_of};
@@ -51,9 +52,10 @@ fn answer(text: &[u8]) {
     }
 }
 
-fn main() {
+fn main(rt: HostRuntime) {
+    let mut stdin = rt.stdin();
     let mut frame = room();
-    let input = input::read(&mut frame);
+    let input = input::read(&mut stdin, &mut frame);
     let Input::Came(have) = input else {
         io::write_all(2, b"slice_frame: standard input can't be read\n");
         return;

@@ -1,5 +1,6 @@
 // What the programs with lists of cases share: a list is text; its cases are compared, and each outcome is printed and counted.
 #![tactic(auto)]
+
 mod agree;
 mod compare;
 mod list;

@@ -22,11 +22,11 @@ impl Tally {
     pub fn counted(self, same: bool) -> Self
         ensures { result ≡ tallied self same }
     {
-        let compared = std::num::wrapping_add_u64(self.compared, 1);
+        let compared = self.compared.wrapping_add(1);
         if same {
             return Tally {
                 compared,
-                same: std::num::wrapping_add_u64(self.same, 1),
+                same: self.same.wrapping_add(1),
             };
         }
         Tally {

@@ -1,6 +1,7 @@
 // Runs TCP options of real handshakes, and of every row in which etherparse answers otherwise (docs/DIFFERENCES.md, C1 to C8), through
 // crate tcp_options, and prints the answer at each place up to the first that ends the list and at the next. stdout has what must come.
 #![tactic(auto)]
+
 use tcp_options::{OptionAnswer, OptionRow, TcpOption};
 
 fn print_number(n: usize) {

@@ -3,11 +3,13 @@
 // length in two bytes and the answer.
 // Where a read fails there is nothing to report, and standard error says so.
 #![tactic(auto)]
+
 ghost use Rattle.std.specs.Prelude.{ℕ, ◌≤◌, ◌≡◌, length};
 ghost use Rattle.test_replay.specs.declared.Part.TheVariants.{Is};
 
 use input::Input;
 use rules::Entry;
+use std::io::Read;
 
 // So many cases are compared; where the list goes on, that is told.
 const MOST: usize = 65_536;
@@ -70,14 +72,14 @@ fn same_at(number: u8, frame: &[u8], answer: &[u8]) -> bool {
 }
 
 // Reads n bytes. Where the room has fewer, nothing is read.
-fn filled(room: &mut [u8], n: usize) -> Part
+fn filled<R: Read>(list: &mut R, room: &mut [u8], n: usize) -> Part
     ensures { (k : ℕ) → result ≡ Is k → k ≤ length room.old }
 {
     if room.len() < n {
         return Part::Cut;
     }
     let from: usize = 0;
-    let input = input::read(&mut room[from..n]);
+    let input = input::read(list, &mut room[from..n]);
     match input {
         Input::Came(have) => {
             if have == n {
@@ -90,17 +92,17 @@ fn filled(room: &mut [u8], n: usize) -> Part
 }
 
 // Reads bytes whose number stands before them, in two bytes.
-fn counted(room: &mut [u8]) -> Part
+fn counted<R: Read>(list: &mut R, room: &mut [u8]) -> Part
     ensures { (k : ℕ) → result ≡ Is k → k ≤ length room.old }
 {
     if room.len() < 2 {
         return Part::Cut;
     }
-    let head = filled(room, 2);
+    let head = filled(list, room, 2);
     match head {
         Part::Is(_) => {
             let len = word_of(room[0], room[1]);
-            filled(room, len)
+            filled(list, room, len)
         }
         Part::Cut => Part::Cut,
         Part::Failed => Part::Failed,
@@ -117,29 +119,29 @@ fn broken(part: Part) -> Next {
 }
 
 // Reads a case behind its number and compares it: no list is ever held as a whole, so the program needs little room.
-fn case(number: u8) -> Next {
+fn case<R: Read>(list: &mut R, number: u8) -> Next {
     let mut frame = io::buffer();
     let mut answer = io::buffer();
-    let framed = counted(&mut frame);
+    let framed = counted(list, &mut frame);
     let Part::Is(frame_len) = framed else {
         return broken(framed);
     };
-    let answered = counted(&mut answer);
+    let answered = counted(list, &mut answer);
     let Part::Is(answer_len) = answered else {
         return broken(answered);
     };
     Next::Compared(same_at(number, &frame[..frame_len], &answer[..answer_len]))
 }
 
-fn next_case() -> Next {
+fn next_case<R: Read>(list: &mut R) -> Next {
     let mut number = [0u8; 1];
-    let input = input::read(&mut number);
+    let input = input::read(list, &mut number);
     match input {
         Input::Came(have) => {
             if have == 0 {
                 return Next::End;
             }
-            case(number[0])
+            case(list, number[0])
         }
         Input::Failed => Next::Failed,
     }
@@ -154,12 +156,12 @@ fn so_far(compared: usize, same: usize, first: usize, end: End) -> Replayed {
     })
 }
 
-fn compare() -> Replayed {
+fn compare<R: Read>(list: &mut R) -> Replayed {
     let mut compared: usize = 0;
     let mut same: usize = 0;
     let mut first: usize = 0;
     while compared < MOST {
-        let next = next_case();
+        let next = next_case(list);
         match next {
             Next::End => {
                 return so_far(compared, same, first, End::Whole);
@@ -224,8 +226,9 @@ fn report(seen: Seen) -> bool {
     ending(end)
 }
 
-fn main() {
-    let replayed = compare();
+fn main(rt: HostRuntime) {
+    let mut stdin = rt.stdin();
+    let replayed = compare(&mut stdin);
     match replayed {
         Replayed::Seen(seen) => {
             if !report(seen) {
