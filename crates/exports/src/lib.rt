@@ -1,6 +1,7 @@
 // The collector's functions for C and Rust, over numbers, slices and structs. Any bytes of any length get an answer, and so does
 // any number of an entry. No bytes lent are written, only the numbers lent to `bhirkulom_headers`. C calls them by crate `exports_c`.
 #![tactic(auto)]
+
 ghost use Rattle.std.specs.Prelude.{◌≡◌, length};
 ghost use Rattle.checksum.specs.Sum.{add_slice, answer, without_zero};
 ghost use Rattle.tcp_options.specs.Options.{options, option_of};

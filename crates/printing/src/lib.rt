@@ -1,5 +1,6 @@
 // A frame's reply as the program prints it: the text of specs/Text.antt, written into a lent buffer.
 #![tactic(auto)]
+
 ghost use Rattle.std.specs.Prelude.{◌≡◌, length};
 ghost use Rattle.rules.specs.Walk.{slices};
 ghost use Rattle.slicer.specs.Reply.{outcome_on_paper, reply_of};

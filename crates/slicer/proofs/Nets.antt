@@ -2,11 +2,10 @@
 use Prim.Native.Nat.{ℕ, ◌+◌, ◌-◌, ◌≤◌}
 use mathlib.Core.Path.{◌≡◌, refl, sym, ap, ◌∙◌}
 use mathlib.Core.List.{List}
-use mathlib.Core.Bool.{Bool, true, false, not}
+use mathlib.Core.Bool.{Bool, true, false}
 use native.Mathlib.Omega.{arith}
 use lib.ListN.{length}
 use lib.Dec.{eqb}
-use borrow.Author.Tests.{not-true, not-false}
 use Rattle.rules.specs.declared.kind.Kind.{Kind}
 use Rattle.rules.specs.declared.kind.Kind.TheVariants.{Ipv4, Auth}
 use Rattle.rules.specs.declared.kind.RoomSource.{RoomSource}
@@ -107,15 +106,15 @@ begun s begin from end source marked a b = record { inside = a; room = b }
 
 module _ {s : List ℕ} {begin : IpNumber} {from end : ℕ} {source : RoomSource} {marked : Bool} (w : Begun s begin from end source marked)
     {c : Bool} (ce : c ≡ eqb begin.0 auth_number) where
-  pub auth_none : not c ≡ true → ExtsDone s Ipv4 begin from end source marked (record { at = from; number = begin; mark = marked })
+  pub auth_none : c ≡ false → ExtsDone s Ipv4 begin from end source marked (record { at = from; number = begin; mark = marked })
   auth_none n = record {
     left = λ f h t i. toward s (with_net f (ip_part h from from marked)) (net_room Ipv4 end t i source marked) from (Ip begin)
-        (chain4-plain (net_room Ipv4 end t i source marked) begin.0 (sym ce ∙ not-true c n));
+        (chain4-plain (net_room Ipv4 end t i source marked) begin.0 (sym ce ∙ n));
     headed = omega arith;
     inside = w.inside;
   }
 
-  module _ (n : not c ≡ false) {o : Placed ExtHeader} (e : (v : ℕ) → o ≡ placing (ext_says Auth v (part s from end)) from source) where
+  module _ (n : c ≡ true) {o : Placed ExtHeader} (e : (v : ℕ) → o ≡ placing (ext_says Auth v (part s from end)) from source) where
     framed : (t i : ℕ) → In s from (net_room Ipv4 end t i source marked)
     framed t i = record { inside = w.inside; room = w.room }
 
@@ -124,7 +123,7 @@ module _ {s : List ℕ} {begin : IpNumber} {from end : ℕ} {source : RoomSource
     unfolding on_turn follow
     to_auth f h t i =
         toward s (with_net f (ip_part h from from marked)) (net_room Ipv4 end t i source marked) from (Ip begin)
-        (chain4_auth (net_room Ipv4 end t i source marked) begin.0 (sym ce ∙ not-false c n))
+        (chain4_auth (net_room Ipv4 end t i source marked) begin.0 (sym ce ∙ n))
         ∙ rest_next slice_way _ s _
 
     auth_at : (y : Placed ExtHeader) (t i : ℕ) → o ≡ y

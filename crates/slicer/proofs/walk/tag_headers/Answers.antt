@@ -11,6 +11,7 @@ use native.Mathlib.Omega.{arith}
 use Prim.Native.Nat.{ℕ, ◌+◌, ◌-◌, ◌*◌, ◌≤◌}
 use Rattle.std.proofs.Common.{rules}
 use Rattle.slicer.proofs.walk.tag_headers.Goals as goal
+use Rattle.slicer.proofs.walk.tag_headers.Goals.{then-i-count, else-i-count}
 
 pub loop-i-init : goal.loop-i-init
 unfolding slots tags_from
@@ -21,8 +22,10 @@ pub loop-i-preserved : goal.loop-i-preserved
 loop-i-preserved c = (
   omega arith,
   omega arith,
-  ⊎_elim (λ w. w.1 ∙ rw (c.loop-i.invariant.2, c.loop-i.invariant.1, c.loop-i.invariant.3) (filled_next c.loop-i.i c.args.count
-      c.loop-i-test.true w.0.taken)) (λ w. w.1 ∙ c.loop-i.invariant.2 ∙ filled_last c.loop-i.i c.args.count w.0.left)
-      c.if-i-count.branch,
+  elim c.if-i-count.branch [
+    | then-i-count w ↦ w.tags-is ∙ rw (c.loop-i.invariant.2, c.loop-i.invariant.1, c.loop-i.invariant.3) (filled_next c.loop-i.i c.args.count
+        c.loop-i-test.true w.if-i-count.true)
+    | else-i-count w ↦ w.tags-is ∙ c.loop-i.invariant.2 ∙ filled_last c.loop-i.i c.args.count w.if-i-count.false
+  ],
   c.loop-i.invariant.3,
 )

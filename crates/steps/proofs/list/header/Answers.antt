@@ -9,7 +9,7 @@ use Rattle.steps.proofs.list.header.Goals as goal
 pub returns-then-k-count-clause-answer : goal.returns-then-k-count-clause-answer
 returns-then-k-count-clause-answer c =
     let walk = slices c.args.entry c.args.s.now in
-    header-here c.args.k walk (sym (ap count_on_paper c.in-Is.is) ∙ c.headers-counted.ensures.answer) c.headers-counted.ensures.listed.0 c.if-k-count.true
+    header-here c.args.k walk (sym (ap count_on_paper c.in-Is.is) ∙ c.headers-counted.ensures.answer) c.headers-counted.ensures.listed c.if-k-count.true
 
 pub returns-else-k-count-clause-answer : goal.returns-else-k-count-clause-answer
 returns-else-k-count-clause-answer c =

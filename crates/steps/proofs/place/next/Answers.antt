@@ -8,19 +8,17 @@ use native.Mathlib.Omega.{arith}
 use mathlib.Core.Path.{◌≡◌, refl}
 use Rattle.std.proofs.Common.{rules}
 use Rattle.steps.proofs.place.next.Goals as goal
+use Rattle.steps.proofs.place.next.Goals.{Else-room-gt-IP_LIMIT}
 
 payload-len : (at to len : ℕ) → to - len ≡ at + to - (at + len)
 payload-len at to len = omega arith
 
-place_here : (c : tie.Else4) → PlaceIn c.before.before.before.before.before.before.before.before.args.s.now
-    c.before.before.before.before.before.before.before.before.args.place
+place_here : (c : Else-room-gt-IP_LIMIT) → PlaceIn c.args.s.now c.args.place
 place_here c =
-    let b2 = c.before.before in
-    let b4 = b2.before.before in
     record {
-      inside = record { inside = b4.if2.false; room = b4.before.if1.false };
-      tags = b2.if3.false;
-      ips = c.if4.false;
+      inside = record { inside = c.if-end-at.false; room = c.if-s-end.false };
+      tags = c.if-room-gt-TAG_LIMIT.false;
+      ips = c.if-room-gt-IP_LIMIT.false;
     }
 
 pub returns-then-s-end-clause-answer : goal.returns-then-s-end-clause-answer
@@ -45,30 +43,30 @@ returns-then-room-gt-IP_LIMIT-clause-answer c =
 
 pub overflow_add-past : goal.overflow_add-past
 overflow_add-past c =
-    let z = sizes _ (place_here c).inside c.header_at-read.ensures.answer c.in-Whole.is in omega (arith, z, c.if-s-end.false)
+    let z = sizes _ (place_here (goal.at.overflow_add-past c).Else-room-gt-IP_LIMIT).inside c.header_at-read.ensures.answer c.in-Whole.is in omega (arith, z, c.if-s-end.false)
 
 pub room_behind-inner-requires : goal.room_behind-inner-requires
 room_behind-inner-requires c =
-    let z = sizes _ (place_here c).inside c.header_at-read.ensures.answer c.in-Whole.is in
+    let z = sizes _ (place_here (goal.at.room_behind-inner-requires c).Else-room-gt-IP_LIMIT).inside c.header_at-read.ensures.answer c.in-Whole.is in
     omega (arith, z, c.if-s-end.false, c.if-room-gt-TAG_LIMIT.false, c.if-room-gt-IP_LIMIT.false)
 
 pub returns-in-Refused-clause-answer : goal.returns-in-Refused-clause-answer
 returns-in-Refused-clause-answer c =
-    step-read (place_here c) c.header_at-read.ensures.answer c.in-Refused.is
+    step-read (place_here (goal.at.returns-in-Refused-clause-answer c).Else-room-gt-IP_LIMIT) c.header_at-read.ensures.answer c.in-Refused.is
 
 pub returns-in-Opens-clause-answer : goal.returns-in-Opens-clause-answer
 unfolding follow
 returns-in-Opens-clause-answer c =
-    rw c.room_behind-inner.ensures (step_turn (place_here c) c.header_at-read.ensures.answer c.in-Whole.is c.in-Opens.is)
+    rw c.room_behind-inner.ensures (step_turn (place_here (goal.at.returns-in-Opens-clause-answer c).Else-room-gt-IP_LIMIT) c.header_at-read.ensures.answer c.in-Whole.is c.in-Opens.is)
 
 pub returns-in-Stops-clause-answer : goal.returns-in-Stops-clause-answer
 unfolding follow
 returns-in-Stops-clause-answer c =
     let x = c.in-Whole.x in
     rw (c.minus.ensures, payload-len c.args.place.at x.to x.len)
-    (step_turn (place_here c) c.header_at-read.ensures.answer c.in-Whole.is c.in-Stops.is)
+    (step_turn (place_here (goal.at.returns-in-Stops-clause-answer c).Else-room-gt-IP_LIMIT) c.header_at-read.ensures.answer c.in-Whole.is c.in-Stops.is)
 
 pub returns-in-LateHopByHop-clause-answer : goal.returns-in-LateHopByHop-clause-answer
 unfolding follow
 returns-in-LateHopByHop-clause-answer c =
-    step_turn (place_here c) c.header_at-read.ensures.answer c.in-Whole.is c.in-LateHopByHop.is
+    step_turn (place_here (goal.at.returns-in-LateHopByHop-clause-answer c).Else-room-gt-IP_LIMIT) c.header_at-read.ensures.answer c.in-Whole.is c.in-LateHopByHop.is

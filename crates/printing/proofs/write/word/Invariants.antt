@@ -1,0 +1,14 @@
+-- `write::word` meets its contract. Assumes nothing.
+use mathlib.Core.Path.{◌∙◌}
+use Prim.Native.Nat.{◌-◌, ◌≤◌}
+use lib.ListN.{length, take}
+use native.Mathlib.Omega.{arith}
+use Rattle.printing.specs.Put.{Wrote}
+use Rattle.printing.proofs.Pieces.{wrote_none, wrote_more, wrote_ended, wrote_length}
+use Rattle.printing.proofs.write.word.Given as goal
+
+abbrev pub invariant-loop-i : goal.invariant-loop-i
+invariant-loop-i l = (l.i ≤ length l.text) × Wrote (take l.i l.text) l.initial.out l.at l.out l.past
+
+abbrev pub decreases-loop-i : goal.decreases-loop-i
+decreases-loop-i l = length l.text - l.i
