@@ -1,6 +1,7 @@
 // The collector's functions as C calls them: each calls the function of crate `exports` of the same name, and promises the same. `lib/build` makes
 // the archive, with crate `exports_by_number_c`; `bin/check-interface` holds the C header and the Rust crate to these functions.
 #![tactic(auto)]
+
 ghost use Rattle.std.specs.Prelude.{◌≡◌, length};
 ghost use Rattle.checksum.specs.Sum.{add_slice, answer, without_zero};
 ghost use Rattle.tcp_options.specs.Options.{options, option_of};
