@@ -2,6 +2,7 @@
 // own, since the walk over the headers is taken in by its caller only where it has one in what is compiled together (docs/SPEED.md). C calls them by
 // crate `exports_by_number_c`.
 #![tactic(auto)]
+
 ghost use Rattle.std.specs.Prelude.{◌≡◌, eqb};
 ghost use Rattle.rules.specs.Test.{pick};
 ghost use Rattle.exports.specs.Handed.{there, no_more, entry_by, header_for, count_for};
