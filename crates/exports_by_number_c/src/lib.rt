@@ -1,6 +1,7 @@
 // Header k and the count as C calls them: each calls the function of crate `exports_by_number` of the same name, and promises the same. An object of
 // its own in the archive, since the walk over the headers is taken in by its caller only where it has one in what is compiled together (docs/SPEED.md).
 #![tactic(auto)]
+
 ghost use Rattle.std.specs.Prelude.{◌≡◌};
 ghost use Rattle.exports.specs.Handed.{entry_by, header_for, count_for};
 
