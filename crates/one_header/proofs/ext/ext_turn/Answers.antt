@@ -31,9 +31,21 @@ returns-then-n-eq-IPV6_FRAG c =
 pub returns-then-n-eq-AUTH : goal.returns-then-n-eq-AUTH
 unfolding ext_turn
 returns-then-n-eq-AUTH c =
-    simp (ne_eqb _ _ c.if-n-eq-IPV6_HOP_BY_HOP.false, ne_eqb _ _ c.if-n-eq-IPV6_ROUTE.false, ne_eqb _ _ c.if-n-eq-IPV6_DEST_OPTIONS.false, ne_eqb _ _ c.if-n-eq-IPV6_FRAG.false, eq-eqb _ _ c.if-n-eq-AUTH.true)
+    simp (
+      ne_eqb _ _ c.if-n-eq-IPV6_HOP_BY_HOP.false,
+      ne_eqb _ _ c.if-n-eq-IPV6_ROUTE.false,
+      ne_eqb _ _ c.if-n-eq-IPV6_DEST_OPTIONS.false,
+      ne_eqb _ _ c.if-n-eq-IPV6_FRAG.false,
+      eq-eqb _ _ c.if-n-eq-AUTH.true,
+    )
 
 pub returns : goal.returns
 unfolding ext_turn
 returns c =
-    simp (ne_eqb _ _ c.if-n-eq-IPV6_HOP_BY_HOP.false, ne_eqb _ _ c.if-n-eq-IPV6_ROUTE.false, ne_eqb _ _ c.if-n-eq-IPV6_DEST_OPTIONS.false, ne_eqb _ _ c.if-n-eq-IPV6_FRAG.false, ne_eqb _ _ c.if-n-eq-AUTH.false)
+    simp (
+      ne_eqb _ _ c.if-n-eq-IPV6_HOP_BY_HOP.false,
+      ne_eqb _ _ c.if-n-eq-IPV6_ROUTE.false,
+      ne_eqb _ _ c.if-n-eq-IPV6_DEST_OPTIONS.false,
+      ne_eqb _ _ c.if-n-eq-IPV6_FRAG.false,
+      ne_eqb _ _ c.if-n-eq-AUTH.false,
+    )

@@ -35,4 +35,5 @@ returns-then-number-eq-TIMESTAMP c =
 
 pub returns : goal.returns
 returns c =
-    named_unknown _ c.if-number-eq-NOOP.false c.if-number-eq-MAXIMUM_SEGMENT_SIZE.false c.if-number-eq-WINDOW_SCALE.false c.if-number-eq-SELECTIVE_ACK_PERMITTED.false c.if-number-eq-SELECTIVE_ACK.false c.if-number-eq-TIMESTAMP.false
+    named_unknown _ c.if-number-eq-NOOP.false c.if-number-eq-MAXIMUM_SEGMENT_SIZE.false c.if-number-eq-WINDOW_SCALE.false
+    c.if-number-eq-SELECTIVE_ACK_PERMITTED.false c.if-number-eq-SELECTIVE_ACK.false c.if-number-eq-TIMESTAMP.false
