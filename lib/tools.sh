@@ -57,5 +57,5 @@ find_tools() {
     esac
 }
 
-# The kit's tools for this machine.
-kit_tools() { echo "$(dirname "$(dirname "$(rt doc)")")/on/$(uname -m)/toolchain/bin"; }
+# The kit's tools. They are for x86-64.
+kit_tools() { echo "$(dirname "$(rt doc)")/toolchain/bin"; }

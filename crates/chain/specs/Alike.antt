@@ -1,5 +1,5 @@
 -- Two frames whose walks tell the same get the same public answers. Where frames are alike, DeclaredLength.antt and Deciding.antt say.
-use Rattle.std.specs.Prelude.{ℕ, zero, suc, ◌≡◌, refl, length}
+use Rattle.std.specs.Prelude.{ℕ, suc, ◌≡◌, refl, length}
 use Rattle.std.proofs.Common.{sym, ◌∙◌}
 use Rattle.std.proofs.Math.Path.{ap}
 use mathlib.Core.List.{List, [], ◌∷◌, ◌++◌, map}

@@ -1,23 +1,19 @@
 -- From the paper back to the answer: every answer can be read off its numbers and values, so no two answers have the same. For the
 -- numbers themselves, Back.antt of crate laws.
 use Rattle.std.specs.Prelude.{ℕ, ◌≡◌, refl, get_or, eqb}
-use Rattle.std.proofs.Common.{sym, ap, ◌∙◌}
-use Rattle.rules.specs.declared.kind.Kind.{Kind}
+use Rattle.std.proofs.Common.{ap, ◌∙◌}
 use Rattle.rules.specs.declared.kind.Kind.TheVariants as K
 use Rattle.rules.specs.declared.kind.Layer.{Layer}
-use Rattle.rules.specs.declared.kind.Layer.TheVariants as L
-use Rattle.rules.specs.declared.kind.Source.TheVariants as S
 use Rattle.rules.specs.declared.place.Header.{Header}
 use Rattle.rules.specs.declared.refusal.Fault.{Fault}
 use Rattle.rules.specs.declared.refusal.Fault.TheVariants as F
 use Rattle.rules.specs.declared.refusal.Refusal.{Refusal}
 use Rattle.rules.specs.declared.refusal.Refusal.TheVariants as R
 use Rattle.rules.specs.declared.refusal.Row.{Row}
-use Rattle.rules.specs.declared.stop.Stop.TheVariants as T
 use Rattle.rules.specs.declared.turn.Turn.{Turn}
 use Rattle.rules.specs.declared.turn.Turn.TheVariants as U
 use Rattle.rules.specs.Named.{kind_number, source_number}
-use Rattle.laws.specs.Back.{Back, settled_by, layer_of, layer_same, source_back, stop_back}
+use Rattle.laws.specs.Back.{Back, layer_of, layer_same, source_back, stop_back}
 use Rattle.rules.specs.Test.{pick, Failure, short, other, Verdict, whole, failed}
 use Rattle.rules.specs.Paper.{fault_on_paper, refusal_on_paper}
 use Rattle.rules.specs.Place.{ending_on_paper}

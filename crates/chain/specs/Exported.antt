@@ -6,11 +6,11 @@ use Rattle.rules.specs.declared.entry.Entry.{Entry}
 use Rattle.rules.specs.declared.place.Header.{Header}
 use Rattle.rules.specs.declared.refusal.Row.{Row}
 use Rattle.rules.specs.Place.{Stopped}
-use Rattle.rules.specs.Walk.{Trace, HeaderAt, header, Answer, is, no-more, refusal, nth, header_of, count_of, slices}
-use Rattle.laws.specs.Gather.{gathered, listed}
+use Rattle.rules.specs.Walk.{Trace, HeaderAt, header, Answer, is, no-more, refusal, nth}
+use Rattle.laws.specs.Gather.{listed}
 use Rattle.laws.specs.Openings.{Asks}
 use Rattle.laws.specs.Walks.{nth_past}
-use Rattle.slicer.specs.Reply.{Reply, nothing, slice_way, accepted_by, reply_of, no_header}
+use Rattle.slicer.specs.Reply.{nothing, slice_way, accepted_by, no_header}
 use Rattle.exports.specs.declared.Chosen.{Chosen}
 use Rattle.exports.specs.declared.Chosen.TheVariants as C
 use Rattle.exports.specs.declared.handed.Packet.{Packet}

@@ -2,7 +2,7 @@
 -- first byte 0x54. Bytes that the paper leaves open are zero.
 use Rattle.std.specs.Prelude.{ℕ, ◌*◌, ◌/◌, ◌%◌, ◌≡◌, refl, List, [], ◌∷◌, ◌++◌, map, replicate}
 use Rattle.std.proofs.Common.{ap, ◌∙◌}
-use Rattle.rules.specs.declared.kind.Kind.TheVariants.{Ethernet2, Vlan, Ipv4, Ipv6, HopByHop, Auth, Udp, Tcp}
+use Rattle.rules.specs.declared.kind.Kind.TheVariants.{Ethernet2, Vlan, Ipv4, HopByHop, Auth, Udp, Tcp}
 use Rattle.rules.specs.declared.kind.Layer.{Layer}
 use Rattle.rules.specs.declared.kind.Layer.TheVariants.{Of, Ipv4Packet}
 use Rattle.rules.specs.declared.kind.Source.{Source}

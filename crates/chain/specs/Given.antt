@@ -1,7 +1,7 @@
 -- What the definitions give for a frame that has a chain, and for one whose walk breaks: the reply, header k, the count, the list and the
 -- text, for each entry. Every public answer is one of these, or made of one.
-use Rattle.std.specs.Prelude.{ℕ, ◌≡◌, refl, List, [], ◌++◌, map, length}
-use Rattle.std.proofs.Common.{ap, ◌∙◌, arith, drop_of_length-le}
+use Rattle.std.specs.Prelude.{ℕ, ◌≡◌, List, [], ◌++◌, map, length}
+use Rattle.std.proofs.Common.{ap, arith, drop_of_length-le}
 use Rattle.rules.specs.declared.place.Header.{Header}
 use Rattle.rules.specs.declared.entry.Entry.{Entry}
 use Rattle.rules.specs.declared.refusal.Row.{Row}

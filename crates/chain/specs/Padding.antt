@@ -7,7 +7,7 @@ use Rattle.rules.specs.declared.place.Place.{Place}
 use Rattle.rules.specs.declared.place.Room.{Room}
 use Rattle.rules.specs.Bytes.{number}
 use Rattle.rules.specs.Rules.{length_of, declared_of, fragment_of, turn_of, tests_by, link}
-use Rattle.rules.specs.Place.{Found, follow, leaves, read}
+use Rattle.rules.specs.Place.{Found, leaves, read}
 use Rattle.rules.specs.Walk.{step, walk, trace}
 use Rattle.laws.specs.Kinds.{Passes}
 use Rattle.laws.specs.Reads.{parts, ahead}

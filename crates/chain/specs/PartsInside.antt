@@ -1,6 +1,6 @@
 -- Every part that a reply or an exported packet tells of an accepted frame lies in the frame: a caller may take its bytes unasked.
-use Rattle.std.specs.Prelude.{ℕ, zero, suc, ◌+◌, ◌-◌, ◌≤◌, ◌≡◌, refl, List, [], ◌∷◌, ◌++◌, Bool, length}
-use Rattle.std.proofs.Common.{sym, ap, ◌∙◌, subst, arith}
+use Rattle.std.specs.Prelude.{ℕ, zero, suc, ◌+◌, ◌≤◌, ◌≡◌, refl, List, [], ◌∷◌, ◌++◌, Bool, length}
+use Rattle.std.proofs.Common.{sym, subst, arith}
 use Rattle.rules.specs.declared.entry.Entry.{Entry}
 use Rattle.rules.specs.declared.kind.Kind.{Kind}
 use Rattle.rules.specs.declared.kind.Kind.TheVariants as K
@@ -15,7 +15,7 @@ use Rattle.slicer.specs.declared.packet.NetPart.{NetPart}
 use Rattle.slicer.specs.declared.packet.NetPart.TheVariants as N
 use Rattle.slicer.specs.declared.packet.TransportPart.{TransportPart}
 use Rattle.slicer.specs.declared.packet.TransportPart.TheVariants as T
-use Rattle.slicer.specs.Reply.{Parts, nothing, no_header, put, extended, slots, slice_way, Reply, Ended, accepted, refused, accepted_by, reply_of}
+use Rattle.slicer.specs.Reply.{Parts, nothing, no_header, put, extended, slots, slice_way, Reply, Ended, accepted, refused, reply_of}
 use Rattle.chain.specs.Chain.{ChainOf, At, here, later}
 use Rattle.chain.specs.Inside.{header_inside, payload_inside}
 use Rattle.chain.specs.Given.{chain_reply}

@@ -44,7 +44,6 @@ use Rattle.slicer.specs.declared.packet.SlicedPacket.{SlicedPacket}
 use Rattle.slicer.specs.declared.packet.TransportPart.{TransportPart}
 use Rattle.slicer.specs.declared.options.OptionsPart.{OptionsPart}
 use Rattle.slicer.specs.Options.{options_of}
-use Rattle.steps.specs.declared.place.Step.{Step}
 use Rattle.slicer.specs.Reply.{packet_on_paper, reply_of}
 use Rattle.steps.specs.Places.{same_place}
 use Rattle.checksum.specs.declared.Sum16BitWords.{Sum16BitWords}

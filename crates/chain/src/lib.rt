@@ -2,6 +2,7 @@
 // that a change of a contract that would break a theorem breaks the check. The theorems themselves stand in specs. Here are the
 // reply, header k and the count; the other entries, the list, options, sums and exports have a file each.
 #![tactic(auto)]
+
 ghost use Rattle.std.specs.Prelude.{◌≡◌};
 ghost use Rattle.rules.specs.declared.refusal.Refusal.{Refusal};
 ghost use Rattle.slicer.specs.declared.packet.Outcome.TheVariants as O;

@@ -1,6 +1,5 @@
 -- What each answer is on the other side of the boundary: a status, and document 01's numbers.
 use Rattle.std.specs.Prelude.{ℕ, List, [], ◌∷◌, map, Bool, true, false, eqb}
-use Rattle.rules.specs.declared.entry.Entry.{Entry}
 use Rattle.rules.specs.declared.entry.Entry.TheVariants as E
 use Rattle.rules.specs.declared.place.Header.{Header}
 use Rattle.rules.specs.declared.place.Number.{Number}

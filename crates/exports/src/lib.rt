@@ -1,6 +1,5 @@
 // The collector's functions for C and Rust, over numbers, slices and structs. Any bytes of any length get an answer, and so does
-// any number of an entry. No bytes lent are written, only the numbers lent to `bhirkulom_headers`. `lib/build` makes the archive,
-// with crate `exports_by_number`; `bin/check-interface` holds the C header and the Rust crate to these functions.
+// any number of an entry. No bytes lent are written, only the numbers lent to `bhirkulom_headers`. C calls them by crate `exports_c`.
 #![tactic(auto)]
 
 ghost use Rattle.std.specs.Prelude.{◌≡◌, length};
@@ -47,16 +46,14 @@ fn entry_by(number: usize) -> Chosen
 }
 
 // The version of the interface that this library was built with.
-#[unsafe(no_mangle)]
-pub extern "C" fn bhirkulom_interface() -> usize
+pub fn bhirkulom_interface() -> usize
     ensures { result ≡ interface }
 {
     INTERFACE
 }
 
 // The whole reply to a frame. Entry 1 is a whole Ethernet II frame, 2 a packet known to be IPv4, 3 one known to be IPv6.
-#[unsafe(no_mangle)]
-pub extern "C" fn bhirkulom_slice(frame: &[u8], entry: usize) -> Packet
+pub fn bhirkulom_slice(frame: &[u8], entry: usize) -> Packet
     ensures answer { result ≡ slice_for (entry_by entry) frame.now }
     ensures unwritten { frame.exit.now ≡ frame.entry.now }
 {
@@ -87,8 +84,7 @@ pub extern "C" fn bhirkulom_slice(frame: &[u8], entry: usize) -> Packet
 
 // The headers of a frame from number k on, three numbers each (kind, offset, length), as many as the lent numbers have room for, and zeros
 // behind them; the answer is the count. Of a refused frame, and for a number that no entry has, there are zeros alone.
-#[unsafe(no_mangle)]
-pub extern "C" fn bhirkulom_headers(
+pub fn bhirkulom_headers(
     frame: &[u8],
     entry: usize,
     k: usize,
@@ -115,8 +111,7 @@ pub extern "C" fn bhirkulom_headers(
 }
 
 // Option number k, counted from 0, of what follows byte 20 of a TCP header.
-#[unsafe(no_mangle)]
-pub extern "C" fn bhirkulom_option(bytes: &[u8], k: usize) -> OptionReply
+pub fn bhirkulom_option(bytes: &[u8], k: usize) -> OptionReply
     ensures answer { result ≡ option_by (option_of (options bytes.now) k) }
     ensures unwritten { bytes.exit.now ≡ bytes.entry.now }
 {
@@ -125,8 +120,7 @@ pub extern "C" fn bhirkulom_option(bytes: &[u8], k: usize) -> OptionReply
 }
 
 // The sum with one slice more. The sum of no slices is 0; every number of 16 bits is a sum.
-#[unsafe(no_mangle)]
-pub extern "C" fn bhirkulom_sum_add(sum: u16, slice: &[u8]) -> u16
+pub fn bhirkulom_sum_add(sum: u16, slice: &[u8]) -> u16
     ensures answer { result ≡ add_slice sum slice.now }
     ensures unwritten { slice.exit.now ≡ slice.entry.now }
 {
@@ -136,8 +130,7 @@ pub extern "C" fn bhirkulom_sum_add(sum: u16, slice: &[u8]) -> u16
 }
 
 // The checksum of what was added: the number that goes into a header, high byte first.
-#[unsafe(no_mangle)]
-pub extern "C" fn bhirkulom_sum_answer(sum: u16) -> u16
+pub fn bhirkulom_sum_answer(sum: u16) -> u16
     ensures { result ≡ answer sum }
 {
     let words = Sum16BitWords { sum };
@@ -145,8 +138,7 @@ pub extern "C" fn bhirkulom_sum_answer(sum: u16) -> u16
 }
 
 // The same for UDP, where a 0 in the header says that no checksum was made.
-#[unsafe(no_mangle)]
-pub extern "C" fn bhirkulom_sum_answer_no_zero(sum: u16) -> u16
+pub fn bhirkulom_sum_answer_no_zero(sum: u16) -> u16
     ensures { result ≡ without_zero (answer sum) }
 {
     let added = Sum16BitWords { sum };

@@ -1,7 +1,7 @@
 -- Header k out of a list with room for one header, and out of the count.
 use Prim.Native.Nat.{ℕ, zero, suc, ◌≤◌, ◌<◌}
 use native.Mathlib.Omega.{arith}
-use mathlib.Core.Path.{◌≡◌, refl, sym, ap, ◌∙◌}
+use mathlib.Core.Path.{◌≡◌, refl, sym, ap}
 use mathlib.Core.List.{List, [], ◌∷◌, map}
 use lib.Dec.{eqb}
 use lib.ListN.{length, get_or, drop}

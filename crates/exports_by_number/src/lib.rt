@@ -1,6 +1,8 @@
 // Header k and the count for C and Rust programs: the list of crate `exports` with room for one header and for none. A crate of its
-// own, since the walk over the headers is taken in by its caller only where it has one in what is compiled together (docs/SPEED.md).
+// own, since the walk over the headers is taken in by its caller only where it has one in what is compiled together (docs/SPEED.md). C calls them by
+// crate `exports_by_number_c`.
 #![tactic(auto)]
+
 ghost use Rattle.std.specs.Prelude.{◌≡◌, eqb};
 ghost use Rattle.rules.specs.Test.{pick};
 ghost use Rattle.exports.specs.Handed.{there, no_more, entry_by, header_for, count_for};
@@ -20,8 +22,7 @@ fn past(counted: usize) -> usize
 }
 
 // Header number k of a frame, counted from 0.
-#[unsafe(no_mangle)]
-pub extern "C" fn bhirkulom_header(frame: &[u8], entry: usize, k: usize) -> HeaderReply
+pub fn bhirkulom_header(frame: &[u8], entry: usize, k: usize) -> HeaderReply
     ensures answer { result ≡ header_for (entry_by entry) frame.now k }
     ensures unwritten { frame.exit.now ≡ frame.entry.now }
 {
@@ -53,8 +54,7 @@ pub extern "C" fn bhirkulom_header(frame: &[u8], entry: usize, k: usize) -> Head
 }
 
 // How many headers a frame has.
-#[unsafe(no_mangle)]
-pub extern "C" fn bhirkulom_count(frame: &[u8], entry: usize) -> CountReply
+pub fn bhirkulom_count(frame: &[u8], entry: usize) -> CountReply
     ensures answer { result ≡ count_for (entry_by entry) frame.now }
     ensures unwritten { frame.exit.now ≡ frame.entry.now }
 {

@@ -9,7 +9,6 @@ use Rattle.rules.specs.declared.kind.Layer.TheVariants as L
 use Rattle.rules.specs.declared.kind.RoomSource.{RoomSource}
 use Rattle.rules.specs.declared.kind.RoomSource.TheVariants as R
 use Rattle.rules.specs.declared.kind.Source.TheVariants as S
-use Rattle.rules.specs.declared.place.Place.{Place}
 use Rattle.rules.specs.declared.stop.Stop.TheVariants as T
 use Rattle.rules.specs.Named.{kind_number, layer_number, source_number, stop_number}
 use Rattle.rules.specs.Test.{pick, source_of}

@@ -1,12 +1,11 @@
 -- Any answer that is gathered from the headers in order: one law for every loop and every leg of a walk.
-use Rattle.std.specs.Prelude.{ℕ, ◌≤◌, ◌<◌, ◌+◌, ◌-◌, ◌≡◌, List, [], ◌∷◌, length}
+use Rattle.std.specs.Prelude.{ℕ, ◌≡◌, List, [], ◌∷◌}
 use Rattle.std.proofs.Math.Path.{refl, ap}
-use Rattle.std.proofs.Common.{sym, ◌∙◌, arith}
+use Rattle.std.proofs.Common.{◌∙◌}
 use Rattle.rules.specs.declared.place.Place.{Place}
 use Rattle.rules.specs.declared.refusal.Row.{Row}
 use Rattle.rules.specs.Place.{Follow, next, halt, wrong, Stopped, Found, reads, refuses, read}
-use Rattle.rules.specs.Walk.{Trace, accepted, refused, unfinished, HeaderAt, header_at, behind, trace, step, onward}
-use Rattle.laws.specs.Reads.{Ahead, goes}
+use Rattle.rules.specs.Walk.{Trace, accepted, refused, unfinished, HeaderAt, header_at, behind, trace, onward}
 use Rattle.laws.specs.Walks.{trace-step}
 
 -- how an answer B is gathered: what each header does to the state A, the answer at a stop, the answer at a refusal

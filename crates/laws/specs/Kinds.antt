@@ -7,7 +7,7 @@ use Rattle.rules.specs.declared.kind.Kind.TheVariants.{Ethernet2, Vlan, Ipv4, Ip
 use Rattle.rules.specs.declared.place.Room.{Room}
 use Rattle.rules.specs.Bytes.{number}
 use Rattle.rules.specs.Test.{pick, All}
-use Rattle.rules.specs.Rules.{rule, least_length, length_of, declared_of, fragment_of, tests_by, tests}
+use Rattle.rules.specs.Rules.{least_length, length_of, declared_of, tests_by, tests}
 use Rattle.rules.specs.Place.{leaves}
 
 -- a header that passes has the least length of its kind, some bytes, and lies whole in what is there

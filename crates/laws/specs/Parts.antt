@@ -1,12 +1,12 @@
 -- What a reader says of the part of a frame from a place to its room's end is what stands at the place.
-use Rattle.std.specs.Prelude.{ℕ, ◌≤◌, ◌+◌, ◌-◌, ◌≡◌, refl, List, length}
+use Rattle.std.specs.Prelude.{ℕ, ◌≤◌, ◌+◌, ◌-◌, ◌≡◌, List, length}
 use Rattle.std.proofs.Math.Path.{sym}
-use Rattle.std.proofs.Common.{ap, ◌∙◌, arith, length-take, length-drop, take_all}
+use Rattle.std.proofs.Common.{arith, length-take, length-drop, take_all}
 use Rattle.rules.specs.declared.kind.Kind.{Kind}
 use Rattle.rules.specs.declared.place.Room.{Room}
 use Rattle.rules.specs.Bytes.{part}
-use Rattle.rules.specs.Test.{whole, failed, Failure, judge, placed}
-use Rattle.rules.specs.Rules.{rule, seen, tests, says}
+use Rattle.rules.specs.Test.{whole, failed, Failure, placed}
+use Rattle.rules.specs.Rules.{rule, says}
 use Rattle.rules.specs.Place.{place, bytes, outcome, read, reads, refuses}
 use Rattle.laws.specs.Tests.{judge-all, judge_fails}
 use Rattle.laws.specs.Kinds.{nested, sized}

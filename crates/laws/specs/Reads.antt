@@ -1,17 +1,16 @@
 -- One header read at a place: what a reading tells, for every kind at once.
-use Rattle.std.specs.Prelude.{ℕ, ◌≤◌, ◌+◌, ◌-◌, ◌≡◌, refl, List}
+use Rattle.std.specs.Prelude.{ℕ, ◌≤◌, ◌+◌, ◌-◌, ◌≡◌, List}
 use Rattle.std.proofs.Common.{sym, ap, ◌∙◌, arith}
 use Rattle.rules.specs.declared.kind.RoomSource.{RoomSource}
 use Rattle.rules.specs.declared.place.Number.{Number}
 use Rattle.rules.specs.declared.place.Place.{Place}
 use Rattle.rules.specs.declared.place.Room.{Room}
-use Rattle.rules.specs.Test.{All, Verdict, whole, failed, Failure, judge, placed}
+use Rattle.rules.specs.Test.{Verdict, whole, failed, Failure, placed}
 use Rattle.rules.specs.declared.turn.Turn.{Turn}
 use Rattle.rules.specs.declared.turn.Turn.TheVariants.{Opens, Stops, LateHopByHop}
-use Rattle.rules.specs.Rules.{tests, length_of, turn_of}
-use Rattle.rules.specs.Place.{entered, leaves, Follow, next, halt, wrong, follow, follow_of, Found, found_by, PlaceRead, reads, refuses, settle, bytes, outcome, read, place}
+use Rattle.rules.specs.Place.{entered, next, follow, follow_of, Found, found_by, reads, refuses, settle, bytes, outcome, read, place}
 use Rattle.laws.specs.Tests.{judge_pass, judge-all}
-use Rattle.laws.specs.Kinds.{Passes, Sized, sized, Nested, nested}
+use Rattle.laws.specs.Kinds.{Passes, sized, nested}
 
 -- what the header at a place says, if it passes its tests
 abbrev pub found_at : List ℕ → Place → Found

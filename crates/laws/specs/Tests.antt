@@ -4,7 +4,7 @@ use Rattle.std.proofs.Math.Path.{◌≡◌, refl, ap}
 use Rattle.std.proofs.Common.{◌∙◌, arith, leb-true, eqb-true}
 use mathlib.Core.List.{List, [], ◌∷◌}
 use Rattle.std.proofs.Math.Bool.{true, false}
-use Rattle.rules.specs.Test.{pick, Test, fits, least, same, Holds, passes, failure, Failure, Verdict, whole, failed, All, judge, pass}
+use Rattle.rules.specs.Test.{pick, Test, fits, least, same, Holds, passes, failure, Failure, whole, failed, All, judge, pass}
 
 pub holds : (t : Test) → passes t ≡ true → Holds t
 holds (fits l a b w) e = leb-true a b e

@@ -1,5 +1,5 @@
 -- A header of any kind at the begin of some bytes that reach to its room's end: what the code answers, and what the rules give.
-use Rattle.std.specs.Prelude.{ℕ, ◌+◌, ◌-◌, ◌≤◌, ◌≡◌, List, Bool, true, false, eqb}
+use Rattle.std.specs.Prelude.{ℕ, ◌+◌, ◌-◌, ◌≡◌, List, Bool, true, false, eqb}
 use Rattle.std.proofs.Math.Path.{refl, ap}
 use Rattle.std.proofs.Common.{sym, ◌∙◌}
 use native.Mathlib.Omega.{arith}
@@ -15,7 +15,7 @@ use Rattle.rules.specs.declared.stop.Stop.TheVariants.{TransportRead}
 use Rattle.rules.specs.declared.turn.Turn.{Turn}
 use Rattle.rules.specs.declared.turn.Turn.TheVariants.{Stops}
 use Rattle.rules.specs.Bytes.{part}
-use Rattle.rules.specs.Test.{pick, Verdict, whole, failed, Failure, judge, placed}
+use Rattle.rules.specs.Test.{pick, Verdict, whole, failed, judge, placed}
 use Rattle.rules.specs.Paper.{refusal_on_paper}
 use Rattle.rules.specs.Fields.{value, total_length, marking}
 use Rattle.rules.specs.Rules.{rule, seen, tests, says, link, ip_number_of, ipv6_declared, length_of, declared_of, fragment_of, names_of, turn_of, payload_of}
@@ -23,7 +23,6 @@ use Rattle.rules.specs.Place.{room, leaves, follow, follow_of, Found, found_by, 
 use Rattle.laws.specs.Tests.{judge_pass, judge-all, judge_fails}
 use Rattle.laws.specs.Parts.{In, part_length}
 use Rattle.headers.specs.declared.net.ExtHeader.{ExtHeader}
-use Rattle.headers.specs.declared.net.IpHeader.{IpHeader}
 use Rattle.headers.specs.declared.transport.TransportHeader.{TransportHeader}
 use Rattle.headers.specs.Says.{link_says, ip_says, ext_says, udp_says, tcp_says}
 use Rattle.one_header.specs.declared.ip.IpFound.{IpFound}

@@ -1,5 +1,5 @@
 -- The loop over an accepted frame's headers: what was printed, and what is still to come. Assumes nothing.
-use Prim.Native.Nat.{ℕ, ◌+◌, ◌-◌, ◌<◌}
+use Prim.Native.Nat.{ℕ, ◌-◌, ◌<◌}
 use mathlib.Core.Path.{◌≡◌, refl, sym, ap, ◌∙◌}
 use mathlib.Core.List.{List, [], ◌∷◌, ◌++◌, append_assoc, append-nil}
 use native.Mathlib.Omega.{arith}
@@ -10,7 +10,7 @@ use Rattle.rules.specs.declared.refusal.Row.{Row}
 use Rattle.rules.specs.declared.stop.Ending.{Ending}
 use Rattle.rules.specs.Named.{kind_number}
 use Rattle.rules.specs.Place.{Stopped, ending_on_paper, Follow, next, halt, wrong, Found, PlaceRead, reads, refuses, read, opening}
-use Rattle.rules.specs.Walk.{Trace, accepted, HeaderAt, Answer, is, no-more, refusal, trace, onward, slices}
+use Rattle.rules.specs.Walk.{Trace, HeaderAt, Answer, is, no-more, refusal, trace, onward, slices}
 use Rattle.laws.specs.Gather.{Way, listed, gathered, gather, rest, rest_next, rest_halt, rest_wrong, gather_whole, gather_refused}
 use Rattle.laws.specs.Reads.{goes}
 use Rattle.steps.specs.declared.place.Step.{Step}

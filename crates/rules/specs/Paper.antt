@@ -1,5 +1,5 @@
 -- Faults and refusals on paper: the row of the table of refusals for every case. The promises use these.
-use Rattle.std.specs.Prelude.{List, [], ◌∷◌}
+use Rattle.std.specs.Prelude.{[], ◌∷◌}
 use Rattle.rules.specs.declared.kind.Kind.TheVariants.{Ipv4, Ipv6, HopByHop, Auth, Tcp}
 use Rattle.rules.specs.declared.kind.Layer.TheVariants.{Of}
 use Rattle.rules.specs.declared.refusal.Fault.{Fault}

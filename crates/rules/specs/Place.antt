@@ -1,5 +1,5 @@
 -- One header read at a place: the room that it leaves, its length, and what follows; or the row of its refusal.
-use Rattle.std.specs.Prelude.{ℕ, ◌+◌, ◌-◌, List, Bool, true, false, not, length, eqb}
+use Rattle.std.specs.Prelude.{ℕ, ◌+◌, ◌-◌, List, Bool, false, not, length, eqb}
 use Rattle.rules.specs.declared.entry.Entry.{Entry}
 use Rattle.rules.specs.declared.entry.Entry.TheVariants as E
 use Rattle.rules.specs.declared.kind.Kind.{Kind}

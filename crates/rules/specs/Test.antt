@@ -1,6 +1,6 @@
 -- A header's tests in order, and the first that fails.
-use Rattle.std.specs.Prelude.{ℕ, ◌≤◌, ◌<◌, ◌≡◌, refl, List, [], ◌∷◌, Bool, true, false, leb, eqb}
-use Rattle.std.proofs.Common.{ap, ◌∙◌, arith, le-leb, eq-eqb, ne_eqb}
+use Rattle.std.specs.Prelude.{ℕ, ◌≤◌, ◌<◌, ◌≡◌, List, [], ◌∷◌, Bool, true, false, leb, eqb}
+use Rattle.std.proofs.Common.{ap, arith, le-leb, eq-eqb, ne_eqb}
 use Rattle.std.proofs.lemmas.Bool.{lt-leb}
 use Rattle.rules.specs.declared.kind.Layer.{Layer}
 use Rattle.rules.specs.declared.kind.RoomSource.{RoomSource}

@@ -16,7 +16,6 @@ use Rattle.rules.specs.declared.place.Room.{Room}
 use Rattle.rules.specs.declared.refusal.Row.{Row}
 use Rattle.rules.specs.declared.stop.Stop.{Stop}
 use Rattle.rules.specs.declared.stop.Stop.TheVariants as Z
-use Rattle.rules.specs.declared.turn.Turn.{Turn}
 use Rattle.rules.specs.declared.turn.Turn.TheVariants.{Opens, Stops}
 use Rattle.rules.specs.Bytes.{part}
 use Rattle.rules.specs.Numbers.{udp_number, tcp_number}
@@ -24,7 +23,7 @@ use Rattle.rules.specs.Test.{pick}
 use Rattle.rules.specs.Rules.{transport, tests_by}
 use Rattle.rules.specs.Place.{place, follow, ending_on_paper}
 use Rattle.rules.specs.Walk.{HeaderAt, header}
-use Rattle.laws.specs.Gather.{gather, rest, rest_next, rest_halt}
+use Rattle.laws.specs.Gather.{gather, rest_next, rest_halt}
 use Rattle.laws.specs.Parts.{In, stands}
 use Rattle.headers.specs.declared.transport.TransportHeader.{TransportHeader}
 use Rattle.headers.specs.Says.{udp_says, tcp_says}
@@ -35,8 +34,8 @@ use Rattle.one_header.specs.At.{Placed, here, refused, placing, here_whole}
 use Rattle.one_header.specs.Header.{transport_header}
 use Rattle.slicer.specs.declared.packet.TransportPart.TheVariants as P
 use Rattle.slicer.specs.Reply.{Parts, accepted_by, refused_by, slice_way, with_transport, put}
-use Rattle.slicer.specs.Legs.{on_turn, head_of, net_room, on_transport, stopped_at, opened_at}
-use Rattle.slicer.proofs.ReadersAt.{Reads, made, whole_is, no, within, udp-read, tcp-read, back, toward}
+use Rattle.slicer.specs.Legs.{on_turn, net_room, on_transport, stopped_at, opened_at}
+use Rattle.slicer.proofs.ReadersAt.{Reads, made, whole_is, no, udp-read, tcp-read, toward}
 
 -- what a number leads to behind the extensions, as transport_turn promises it
 abbrev Turned : TransportTurn → IpNumber → Bool → Type 0

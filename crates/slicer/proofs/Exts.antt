@@ -19,7 +19,7 @@ use Rattle.rules.specs.Bytes.{part}
 use Rattle.rules.specs.Numbers.{hop_by_hop_not_at_start}
 use Rattle.rules.specs.Test.{row}
 use Rattle.rules.specs.Fields.{marking}
-use Rattle.rules.specs.Rules.{transport, chain6}
+use Rattle.rules.specs.Rules.{transport}
 use Rattle.rules.specs.Place.{place, entered, follow}
 use Rattle.rules.specs.Walk.{HeaderAt}
 use Rattle.laws.specs.Gather.{gather, rest_next, rest_wrong}

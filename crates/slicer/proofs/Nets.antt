@@ -17,7 +17,7 @@ use Rattle.rules.specs.declared.refusal.Row.{Row}
 use Rattle.rules.specs.Bytes.{part}
 use Rattle.rules.specs.Numbers.{auth_number}
 use Rattle.rules.specs.Fields.{marking}
-use Rattle.rules.specs.Rules.{rule, transport, chain4, chain6}
+use Rattle.rules.specs.Rules.{rule}
 use Rattle.rules.specs.Place.{place, room, follow}
 use Rattle.laws.specs.Gather.{gather, rest_next}
 use Rattle.laws.specs.Parts.{In}

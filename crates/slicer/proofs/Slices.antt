@@ -1,26 +1,23 @@
 -- The reply put together: tag slots, and what the link's end leads to. Assumes nothing.
 use Prim.Native.Nat.{ℕ, zero, suc, ◌+◌, ◌-◌, ◌*◌, ◌≤◌, ◌<◌, min}
-use mathlib.Core.Path.{◌≡◌, refl, sym, ap, ◌∙◌}
+use mathlib.Core.Path.{◌≡◌, refl, ap, ◌∙◌}
 use mathlib.Core.List.{List, [], ◌∷◌}
 use mathlib.Core.Bool.{false}
 use native.Mathlib.Omega.{arith}
 use native.Mathlib.Numerals.{add-one}
 use lib.ListN.{length, set}
 use Rattle.rules.specs.declared.entry.Entry.{Entry}
-use Rattle.rules.specs.declared.kind.Kind.{Kind}
-use Rattle.rules.specs.declared.kind.Kind.TheVariants.{Vlan, Ipv4, Ipv6}
+use Rattle.rules.specs.declared.kind.Kind.TheVariants.{Vlan}
 use Rattle.rules.specs.declared.kind.RoomSource.TheVariants as S
 use Rattle.rules.specs.declared.place.Header.{Header}
 use Rattle.rules.specs.declared.place.Number.TheVariants.{Link}
 use Rattle.rules.specs.declared.stop.Stop.{Stop}
 use Rattle.rules.specs.Numbers.{ethernet_length, tag_limit}
-use Rattle.rules.specs.Named.{stop_number}
 use Rattle.rules.specs.Place.{next, follow, opening, ending_on_paper}
 use Rattle.rules.specs.Walk.{slices}
 use Rattle.laws.specs.Gather.{gather, rest, rest_next, rest_halt}
 use Rattle.one_header.specs.declared.ip.IpKind.{IpKind}
 use Rattle.one_header.specs.declared.ip.IpKind.TheVariants as I
-use Rattle.one_header.specs.declared.link.LinkEnd.{LinkEnd}
 use Rattle.one_header.specs.declared.link.LinkEnd.TheVariants as D
 use Rattle.one_header.specs.Turns.{link_end_on_paper, ip_kind_of}
 use Rattle.slicer.specs.declared.link.LinkFound.{LinkFound}

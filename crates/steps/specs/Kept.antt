@@ -1,6 +1,6 @@
 -- Lent numbers of which the first are kept and the others made zeros.
 use Rattle.std.specs.Prelude.{ℕ, zero, suc, ◌+◌, ◌*◌, ◌/◌, ◌≤◌, ◌<◌, min, ◌≡◌, refl, List, [], ◌∷◌, length, set}
-use Rattle.std.proofs.Common.{ap, ◌∙◌, arith}
+use Rattle.std.proofs.Common.{ap, arith}
 use Rattle.std.proofs.lemmas.List.{length-replicate}
 use Rattle.rules.specs.declared.place.Header.{Header}
 use Rattle.laws.specs.Zeros.{zeros, cleared, cleared-length, cleared_more, cleared-all}

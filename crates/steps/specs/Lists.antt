@@ -1,5 +1,5 @@
 -- Headers by number and their count, and the headers written as numbers.
-use Rattle.std.specs.Prelude.{ℕ, ◌≡◌, List, [], ◌∷◌, map, drop}
+use Rattle.std.specs.Prelude.{ℕ, List, [], ◌∷◌, map, drop}
 use Rattle.rules.specs.declared.place.Header.{Header}
 use Rattle.rules.specs.Paper.{refusal_on_paper}
 use Rattle.rules.specs.Walk.{Trace, accepted, refused, unfinished, HeaderAt, header, Answer, is, no-more, refusal}

@@ -1,6 +1,6 @@
 -- The step from a place: what the header there leads to.
 use Rattle.std.specs.Prelude.{ℕ, ◌≡◌, refl, Bool, List, length, leb}
-use Rattle.std.proofs.Common.{ap, ◌∙◌}
+use Rattle.std.proofs.Common.{ap}
 use Rattle.rules.specs.declared.place.Place.{Place}
 use Rattle.rules.specs.declared.refusal.Row.{Row}
 use Rattle.rules.specs.Numbers.{tag_limit, ip_limit}

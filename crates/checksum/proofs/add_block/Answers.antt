@@ -1,12 +1,8 @@
 -- `add_block` meets its contract. The loop's invariant: the state, the sum so far turned by 256, and the total of what is left fold to the
 -- sum that is asked for; and two bytes add less than 2^16, so that the sum fits 32 bits. Assumes nothing.
-use mathlib.Core.Path.{◌≡◌, ap, ◌∙◌}
-use Prim.Native.Nat.{◌+◌, ◌*◌, ◌-◌, ◌≤◌}
+use mathlib.Core.Path.{◌∙◌}
 use native.Mathlib.Omega.{arith}
-use lib.ListN.{length}
-use Rattle.checksum.specs.Sum.{fold, add_slice}
-use Rattle.checksum.proofs.Blocks.{along, along-two, along_one, along-none}
-use Rattle.std.proofs.Common.{rules}
+use Rattle.checksum.proofs.Blocks.{along-two, along_one, along-none}
 use Rattle.checksum.proofs.add_block.Goals as goal
 
 pub loop-i-preserved : goal.loop-i-preserved

@@ -1,11 +1,10 @@
 -- `add_block` meets its contract. The loop's invariant: the state, the sum so far turned by 256, and the total of what is left fold to the
 -- sum that is asked for; and two bytes add less than 2^16, so that the sum fits 32 bits. Assumes nothing.
-use mathlib.Core.Path.{◌≡◌, ap, ◌∙◌}
-use Prim.Native.Nat.{◌+◌, ◌*◌, ◌-◌, ◌≤◌}
-use native.Mathlib.Omega.{arith}
+use mathlib.Core.Path.{◌≡◌}
+use Prim.Native.Nat.{◌*◌, ◌-◌, ◌≤◌}
 use lib.ListN.{length}
-use Rattle.checksum.specs.Sum.{fold, add_slice}
-use Rattle.checksum.proofs.Blocks.{along, along-two, along_one, along-none}
+use Rattle.checksum.specs.Sum.{add_slice}
+use Rattle.checksum.proofs.Blocks.{along}
 use Rattle.checksum.proofs.add_block.Given as goal
 
 abbrev pub invariant-loop-i : goal.invariant-loop-i

@@ -1,11 +1,9 @@
 -- `add_blocks` meets its contract. The loop's invariant: what is left, added to the state so far, gives the sum that is asked for. The
 -- block's length is taken from the code: `refl` says that it is even. Assumes nothing.
-use mathlib.Core.Path.{◌≡◌, refl, ◌∙◌}
+use mathlib.Core.Path.{◌≡◌}
 use Prim.Native.Nat.{◌-◌, ◌≤◌}
-use native.Mathlib.Omega.{arith}
 use lib.ListN.{length, drop}
 use Rattle.checksum.specs.Sum.{add_slice}
-use Rattle.checksum.proofs.Blocks.{block_on, block_last}
 use Rattle.checksum.proofs.add_blocks.Given as goal
 
 abbrev pub invariant-loop-i : goal.invariant-loop-i

@@ -1,7 +1,6 @@
 -- `add_turned` meets its contract. Assumes nothing.
 use mathlib.Core.Path.{◌∙◌}
 use Rattle.checksum.specs.Laws.{fold-base}
-use Rattle.std.proofs.Common.{rules}
 use Rattle.checksum.proofs.add_turned.Goals as goal
 
 pub returns : goal.returns

@@ -2,7 +2,6 @@
 use mathlib.Core.Path.{sym, ◌∙◌}
 use native.Mathlib.Omega.{arith}
 use Rattle.checksum.specs.Laws.{fold_small, fold_once}
-use Rattle.std.proofs.Common.{rules}
 use Rattle.checksum.proofs.folded.Goals as goal
 
 pub returns : goal.returns

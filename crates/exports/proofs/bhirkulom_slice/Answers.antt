@@ -1,8 +1,7 @@
 -- `bhirkulom_slice` meets its contract. Assumes nothing.
-use Rattle.exports.proofs.Closed.{accepted_reply, refused_alone}
+use Rattle.exports.proofs.Closed.{refused_alone}
 use Rattle.exports.specs.Handed.{packet_by}
-use mathlib.Core.Path.{refl, ap, ◌∙◌}
-use Rattle.std.proofs.Common.{rules}
+use mathlib.Core.Path.{ap, ◌∙◌}
 use Rattle.exports.proofs.bhirkulom_slice.Goals as goal
 
 pub returns-in-Refused-clause-answer : goal.returns-in-Refused-clause-answer

@@ -1,10 +1,7 @@
 -- `accepted_lines` meets its contract. Assumes nothing.
-use Rattle.printing.proofs.Telling.{Telling, telling_first, telling_all, telling_less, telling_on, telling_last, telling_refused, telling_no_place}
-use Rattle.printing.proofs.Pieces.{wrote_length}
+use Rattle.printing.proofs.Telling.{Telling}
 use Rattle.printing.specs.Text.{text}
 use Rattle.rules.specs.Walk.{trace}
-use Rattle.steps.specs.Places.{opens-there}
-use mathlib.Core.Path.{◌∙◌}
 use Prim.Native.Nat.{◌-◌}
 use Rattle.printing.proofs.accepted_lines.Given as goal
 

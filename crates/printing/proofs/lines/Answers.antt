@@ -1,6 +1,5 @@
 -- `lines` meets its contract. Assumes nothing.
 use Rattle.printing.proofs.Replies.{reply_accepts, reply_refuses}
-use Rattle.std.proofs.Common.{rules}
 use Rattle.printing.proofs.lines.Goals as goal
 
 pub accepted_lines-requires : goal.accepted_lines-requires

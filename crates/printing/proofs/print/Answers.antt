@@ -1,7 +1,5 @@
 -- `print` meets its contract. Assumes nothing.
-use mathlib.Core.Path.{refl}
 use Rattle.printing.proofs.Pieces.{printed_whole, printed_cut}
-use Rattle.std.proofs.Common.{rules}
 use Rattle.printing.proofs.print.Goals as goal
 
 pub returns-then-out-past-clause-text : goal.returns-then-out-past-clause-text

@@ -2,7 +2,6 @@
 use borrow.Author.Tests.{lt-ltb, le-ltb}
 use native.Mathlib.Omega.{arith}
 use Rattle.tcp_options.specs.Options.{sound}
-use Rattle.std.proofs.Common.{rules}
 use Rattle.tcp_options.proofs.is_sound.Goals as goal
 
 pub returns-then-len-lt-LEN_LEAST : goal.returns-then-len-lt-LEN_LEAST

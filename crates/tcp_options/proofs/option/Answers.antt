@@ -1,10 +1,6 @@
 -- `option` meets its contract. Assumes nothing.
-use Rattle.tcp_options.proofs.Going.{Going, going_first, going_last, going_fits, going_is, going_on}
-use lib.ListN.{length}
+use Rattle.tcp_options.proofs.Going.{going_first, going_last, going_fits, going_is, going_on}
 use native.Mathlib.Omega.{arith}
-use mathlib.Core.Path.{refl}
-use Prim.Native.Nat.{◌-◌}
-use Rattle.std.proofs.Common.{rules}
 use Rattle.tcp_options.proofs.option.Goals as goal
 
 pub loop-found-init : goal.loop-found-init

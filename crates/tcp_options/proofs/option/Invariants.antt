@@ -1,8 +1,6 @@
 -- `option` meets its contract. Assumes nothing.
-use Rattle.tcp_options.proofs.Going.{Going, going_first, going_last, going_fits, going_is, going_on}
+use Rattle.tcp_options.proofs.Going.{Going}
 use lib.ListN.{length}
-use native.Mathlib.Omega.{arith}
-use mathlib.Core.Path.{refl}
 use Prim.Native.Nat.{◌-◌}
 use Rattle.tcp_options.proofs.option.Given as goal
 

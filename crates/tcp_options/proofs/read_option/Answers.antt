@@ -1,9 +1,7 @@
 -- `read_option` meets its contract. Assumes nothing.
-use borrow.Author.Tests.{not-true, not-false}
 use Rattle.tcp_options.specs.OneOption.{read_none, read_end, read-noop, read_no_length, read_not_sound, read_wrong, read_right}
 use Rattle.tcp_options.specs.Options.{answer_by}
 use mathlib.Core.Path.{sym, ap, ◌∙◌}
-use Rattle.std.proofs.Common.{rules}
 use Rattle.tcp_options.proofs.read_option.Goals as goal
 
 pub returns-then-s-at : goal.returns-then-s-at

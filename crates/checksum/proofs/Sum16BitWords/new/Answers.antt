@@ -1,7 +1,6 @@
 -- `new` meets its contract: the sum of no slices is 0. Assumes nothing.
 use mathlib.Core.Path.{refl}
 use Rattle.checksum.specs.Sum.{totals, fold}
-use Rattle.std.proofs.Common.{rules}
 use Rattle.checksum.proofs.Sum16BitWords.new.Goals as goal
 
 pub returns : goal.returns

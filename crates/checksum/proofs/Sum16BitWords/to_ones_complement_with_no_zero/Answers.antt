@@ -2,7 +2,6 @@
 use native.Mathlib.Omega.{arith}
 use Rattle.checksum.specs.Sum.{answer}
 use Rattle.checksum.specs.Laws.{without_zero_is}
-use Rattle.std.proofs.Common.{rules}
 use Rattle.checksum.proofs.Sum16BitWords.to_ones_complement_with_no_zero.Goals as goal
 
 pub returns-then-complement-eq0 : goal.returns-then-complement-eq0

@@ -1,7 +1,6 @@
 -- `reply::partless` meets its contract. Assumes nothing.
 use Rattle.slicer.specs.Reply.{slots}
 use mathlib.Core.Path.{refl}
-use Rattle.std.proofs.Common.{rules}
 use Rattle.exports.proofs.reply.partless.Goals as goal
 
 pub returns : goal.returns

@@ -1,12 +1,9 @@
 -- `reply::ranges` meets its contract. Assumes nothing.
-use Rattle.exports.proofs.Filled.{filled_next, filled_whole}
 use Rattle.exports.specs.Handed.{range_of}
-use Rattle.slicer.specs.Reply.{no_header}
 use Rattle.rules.specs.Numbers.{tag_limit}
-use lib.ListN.{length, take, drop, length-set}
+use lib.ListN.{length, take, drop}
 use mathlib.Core.List.{◌++◌, map}
-use mathlib.Core.Path.{◌≡◌, refl}
-use native.Mathlib.Omega.{arith}
+use mathlib.Core.Path.{◌≡◌}
 use Prim.Native.Nat.{◌-◌, ◌≤◌}
 use Rattle.exports.proofs.reply.ranges.Given as goal
 

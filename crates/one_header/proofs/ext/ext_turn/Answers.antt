@@ -1,7 +1,6 @@
 -- `ext::ext_turn` meets its contract. Assumes nothing.
 use Rattle.one_header.specs.Turns.{ext_turn}
 use borrow.Author.Tests.{eq-eqb, ne_eqb}
-use Rattle.std.proofs.Common.{rules}
 use Rattle.one_header.proofs.ext.ext_turn.Goals as goal
 
 pub returns-in-Directly : goal.returns-in-Directly
@@ -32,9 +31,21 @@ returns-then-n-eq-IPV6_FRAG c =
 pub returns-then-n-eq-AUTH : goal.returns-then-n-eq-AUTH
 unfolding ext_turn
 returns-then-n-eq-AUTH c =
-    simp (ne_eqb _ _ c.if-n-eq-IPV6_HOP_BY_HOP.false, ne_eqb _ _ c.if-n-eq-IPV6_ROUTE.false, ne_eqb _ _ c.if-n-eq-IPV6_DEST_OPTIONS.false, ne_eqb _ _ c.if-n-eq-IPV6_FRAG.false, eq-eqb _ _ c.if-n-eq-AUTH.true)
+    simp (
+      ne_eqb _ _ c.if-n-eq-IPV6_HOP_BY_HOP.false,
+      ne_eqb _ _ c.if-n-eq-IPV6_ROUTE.false,
+      ne_eqb _ _ c.if-n-eq-IPV6_DEST_OPTIONS.false,
+      ne_eqb _ _ c.if-n-eq-IPV6_FRAG.false,
+      eq-eqb _ _ c.if-n-eq-AUTH.true,
+    )
 
 pub returns : goal.returns
 unfolding ext_turn
 returns c =
-    simp (ne_eqb _ _ c.if-n-eq-IPV6_HOP_BY_HOP.false, ne_eqb _ _ c.if-n-eq-IPV6_ROUTE.false, ne_eqb _ _ c.if-n-eq-IPV6_DEST_OPTIONS.false, ne_eqb _ _ c.if-n-eq-IPV6_FRAG.false, ne_eqb _ _ c.if-n-eq-AUTH.false)
+    simp (
+      ne_eqb _ _ c.if-n-eq-IPV6_HOP_BY_HOP.false,
+      ne_eqb _ _ c.if-n-eq-IPV6_ROUTE.false,
+      ne_eqb _ _ c.if-n-eq-IPV6_DEST_OPTIONS.false,
+      ne_eqb _ _ c.if-n-eq-IPV6_FRAG.false,
+      ne_eqb _ _ c.if-n-eq-AUTH.false,
+    )

@@ -3,7 +3,6 @@ use Rattle.one_header.specs.Turns.{chain4_auth, chain4-plain, chain6_is}
 use Rattle.rules.specs.declared.turn.ChainPlace.TheVariants.{Directly}
 use borrow.Author.Tests.{eq-eqb, ne_eqb}
 use mathlib.Core.Path.{sym, ◌∙◌}
-use Rattle.std.proofs.Common.{rules}
 use Rattle.one_header.proofs.header.first_turn.Goals as goal
 
 pub returns-then-opens_auth : goal.returns-then-opens_auth

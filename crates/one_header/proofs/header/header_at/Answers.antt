@@ -1,8 +1,7 @@
 -- `header::header_at` meets its contract. Assumes nothing.
-use Rattle.one_header.specs.Header.{link_header, ip_header, ext_header, transport_header, ethernet_reads, vlan_reads, ipv4_reads, ipv6_reads}
+use Rattle.one_header.specs.Header.{ethernet_reads, vlan_reads, ipv4_reads, ipv6_reads}
 use Rattle.one_header.specs.Header.{hop_reads, routing_reads, destination_reads, fragment_reads, auth_reads, udp_reads, tcp_reads}
-use mathlib.Core.Path.{ap, ◌∙◌, refl}
-use Rattle.std.proofs.Common.{rules}
+use mathlib.Core.Path.{◌∙◌}
 use Rattle.one_header.proofs.header.header_at.Goals as goal
 
 pub returns-in-Ethernet2-clause-answer : goal.returns-in-Ethernet2-clause-answer

@@ -1,9 +1,7 @@
 -- `header::later_turn` meets its contract. Assumes nothing.
 use Rattle.one_header.specs.Turns.{chain6_is}
 use Rattle.rules.specs.declared.turn.ChainPlace.TheVariants.{Later}
-use borrow.Author.Tests.{eq-eqb, ne_eqb}
-use mathlib.Core.Path.{refl}
-use Rattle.std.proofs.Common.{rules}
+use borrow.Author.Tests.{ne_eqb}
 use Rattle.one_header.proofs.header.later_turn.Goals as goal
 
 pub returns : goal.returns

@@ -4,7 +4,6 @@ use Rattle.rules.specs.Test.{pick}
 use mathlib.Core.Bool.{Bool, true, false}
 use mathlib.Core.Path.{◌≡◌, refl}
 use borrow.Author.Tests.{eq-eqb, ne_eqb}
-use Rattle.std.proofs.Common.{rules}
 use Rattle.one_header.proofs.link.is_tag.Goals as goal
 
 same_bool : (b : Bool) → b ≡ pick b true false

@@ -2,7 +2,6 @@
 use Rattle.rules.specs.Rules.{link}
 use borrow.Author.Tests.{lt-ltb, le-ltb, eq-eqb, ne_eqb}
 use mathlib.Core.Path.{refl}
-use Rattle.std.proofs.Common.{rules}
 use Rattle.one_header.proofs.link.link_turn.Goals as goal
 
 pub returns-then-tags-lt-TAG_LIMIT : goal.returns-then-tags-lt-TAG_LIMIT

@@ -1,7 +1,6 @@
 -- `transport::transport_turn` meets its contract. Assumes nothing.
 use Rattle.one_header.specs.Turns.{is_marked, is_udp, is_tcp, is_other}
 use mathlib.Core.Path.{sym, ◌∙◌}
-use Rattle.std.proofs.Common.{rules}
 use Rattle.one_header.proofs.transport.transport_turn.Goals as goal
 
 pub returns-then-mark : goal.returns-then-mark

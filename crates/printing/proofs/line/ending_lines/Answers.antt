@@ -1,7 +1,6 @@
 -- `line::ending_lines` meets its contract. Assumes nothing.
 use Rattle.printing.proofs.Pieces.{wrote_then}
 use Rattle.printing.specs.Text.{ending_lines}
-use Rattle.std.proofs.Common.{rules}
 use Rattle.printing.proofs.line.ending_lines.Goals as goal
 
 pub returns : goal.returns

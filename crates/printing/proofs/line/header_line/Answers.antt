@@ -1,7 +1,6 @@
 -- `line::header_line` meets its contract. Assumes nothing.
 use Rattle.printing.proofs.Pieces.{wrote_word}
 use Rattle.printing.specs.Text.{header_line}
-use Rattle.std.proofs.Common.{rules}
 use Rattle.printing.proofs.line.header_line.Goals as goal
 
 pub returns : goal.returns

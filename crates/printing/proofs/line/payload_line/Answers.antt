@@ -1,7 +1,6 @@
 -- `line::payload_line` meets its contract. Assumes nothing.
 use Rattle.printing.proofs.Pieces.{wrote_word}
 use Rattle.printing.specs.Text.{payload_line}
-use Rattle.std.proofs.Common.{rules}
 use Rattle.printing.proofs.line.payload_line.Goals as goal
 
 pub returns : goal.returns

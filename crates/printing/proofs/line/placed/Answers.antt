@@ -1,7 +1,6 @@
 -- `line::placed` meets its contract. Assumes nothing.
 use Rattle.printing.proofs.Pieces.{wrote_word}
 use borrow.Author.Tests.{eq-eqb, ne_eqb}
-use Rattle.std.proofs.Common.{rules}
 use Rattle.printing.proofs.line.placed.Goals as goal
 
 pub returns-then-row-eq1 : goal.returns-then-row-eq1

@@ -1,7 +1,6 @@
 -- `line::stop_line` meets its contract. Assumes nothing.
 use Rattle.printing.proofs.Pieces.{wrote_word}
 use Rattle.printing.specs.Text.{stop_line}
-use Rattle.std.proofs.Common.{rules}
 use Rattle.printing.proofs.line.stop_line.Goals as goal
 
 pub returns : goal.returns

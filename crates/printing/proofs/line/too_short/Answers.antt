@@ -1,6 +1,5 @@
 -- `line::too_short` meets its contract. Assumes nothing.
 use Rattle.printing.proofs.Pieces.{wrote_word}
-use Rattle.std.proofs.Common.{rules}
 use Rattle.printing.proofs.line.too_short.Goals as goal
 
 pub returns : goal.returns

@@ -1,11 +1,10 @@
 -- `write::clear` meets its contract. Assumes nothing.
-use mathlib.Core.Path.{◌≡◌, refl, ap, ◌∙◌}
+use mathlib.Core.Path.{◌≡◌, ap, ◌∙◌}
 use mathlib.Core.List.{List}
-use Prim.Native.Nat.{ℕ, ◌-◌, ◌≤◌}
+use Prim.Native.Nat.{ℕ}
 use native.Mathlib.Omega.{arith}
 use lib.ListN.{length}
 use Rattle.laws.specs.Zeros.{cleared, cleared-length, cleared_more, cleared-all}
-use Rattle.std.proofs.Common.{rules}
 use Rattle.printing.proofs.write.clear.Goals as goal
 
 long : (o : List ℕ) (i : ℕ) {out : List ℕ} → out ≡ cleared i o → length out ≡ length o

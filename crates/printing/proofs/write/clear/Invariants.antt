@@ -1,10 +1,8 @@
 -- `write::clear` meets its contract. Assumes nothing.
-use mathlib.Core.Path.{◌≡◌, refl, ap, ◌∙◌}
-use mathlib.Core.List.{List}
-use Prim.Native.Nat.{ℕ, ◌-◌, ◌≤◌}
-use native.Mathlib.Omega.{arith}
+use mathlib.Core.Path.{◌≡◌}
+use Prim.Native.Nat.{◌-◌, ◌≤◌}
 use lib.ListN.{length}
-use Rattle.laws.specs.Zeros.{cleared, cleared-length, cleared_more, cleared-all}
+use Rattle.laws.specs.Zeros.{cleared}
 use Rattle.printing.proofs.write.clear.Given as goal
 
 abbrev pub invariant-loop-i : goal.invariant-loop-i

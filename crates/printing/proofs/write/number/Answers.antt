@@ -1,6 +1,5 @@
 -- `write::number` meets its contract. Assumes nothing.
 use Rattle.printing.proofs.Pieces.{wrote_then}
-use Rattle.std.proofs.Common.{rules}
 use Rattle.printing.proofs.write.number.Goals as goal
 
 pub returns : goal.returns

@@ -1,10 +1,7 @@
 -- `write::word` meets its contract. Assumes nothing.
-use mathlib.Core.Path.{◌∙◌}
 use Prim.Native.Nat.{◌-◌, ◌≤◌}
 use lib.ListN.{length, take}
-use native.Mathlib.Omega.{arith}
 use Rattle.printing.specs.Put.{Wrote}
-use Rattle.printing.proofs.Pieces.{wrote_none, wrote_more, wrote_ended, wrote_length}
 use Rattle.printing.proofs.write.word.Given as goal
 
 abbrev pub invariant-loop-i : goal.invariant-loop-i

@@ -1,13 +1,9 @@
 -- `link::slice_ether_type` meets its contract. Assumes nothing.
-use Rattle.slicer.proofs.Links.{Tagging, tags_first, tag-cut, tag_in, tag_few, tag_on, tags_done}
-use Rattle.slicer.specs.Legs.{on_link, went, stuck}
+use Rattle.slicer.proofs.Links.{tag-cut, tag_in, tag_on, tags_done}
+use Rattle.slicer.specs.Legs.{went, stuck}
 use Rattle.one_header.specs.At.{link_at_on_paper}
-use Rattle.rules.specs.Numbers.{ethernet_length}
 use mathlib.Core.Path.{refl, ap}
 use native.Mathlib.Omega.{arith}
-use lib.ListN.{length}
-use Prim.Native.Nat.{◌-◌}
-use Rattle.std.proofs.Common.{rules}
 use Rattle.slicer.proofs.link.slice_ether_type.Goals as goal
 
 pub returns-in-Refused : goal.returns-in-Refused

@@ -3,7 +3,6 @@ use Rattle.slicer.proofs.Links.{frame_short, frame_long, frame_tags, begins4, be
 use Rattle.slicer.specs.Legs.{went, stuck}
 use Rattle.one_header.specs.At.{link_at_on_paper}
 use mathlib.Core.Path.{ap}
-use Rattle.std.proofs.Common.{rules}
 use Rattle.slicer.proofs.link.slice_link.Goals as goal
 
 pub slice_ether_type-requires : goal.slice_ether_type-requires

@@ -4,7 +4,6 @@ use Rattle.slicer.specs.Legs.{went, stuck}
 use Rattle.one_header.specs.At.{ext_at_on_paper}
 use mathlib.Core.Path.{ap}
 use native.Mathlib.Omega.{arith}
-use Rattle.std.proofs.Common.{rules}
 use Rattle.slicer.proofs.net.ipv4_exts_slice.Goals as goal
 
 pub returns-then-not-opens_auth : goal.returns-then-not-opens_auth

@@ -1,11 +1,9 @@
 -- `net::ipv6_exts_slice` meets its contract. Assumes nothing.
-use Rattle.slicer.proofs.Exts.{Along, along_first, along-short, along_ahead, along_on, along_late, along-ends}
+use Rattle.slicer.proofs.Exts.{along-short, along_ahead, along_on, along_late, along-ends}
 use Rattle.slicer.specs.Legs.{went, stuck}
 use Rattle.one_header.specs.At.{ext_at_on_paper}
 use mathlib.Core.Path.{ap}
 use native.Mathlib.Omega.{arith}
-use Prim.Native.Nat.{◌-◌}
-use Rattle.std.proofs.Common.{rules}
 use Rattle.slicer.proofs.net.ipv6_exts_slice.Goals as goal
 
 pub returns-in-Refused : goal.returns-in-Refused

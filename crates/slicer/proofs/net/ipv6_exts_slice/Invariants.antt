@@ -1,9 +1,5 @@
 -- `net::ipv6_exts_slice` meets its contract. Assumes nothing.
-use Rattle.slicer.proofs.Exts.{Along, along_first, along-short, along_ahead, along_on, along_late, along-ends}
-use Rattle.slicer.specs.Legs.{went, stuck}
-use Rattle.one_header.specs.At.{ext_at_on_paper}
-use mathlib.Core.Path.{ap}
-use native.Mathlib.Omega.{arith}
+use Rattle.slicer.proofs.Exts.{Along}
 use Prim.Native.Nat.{◌-◌}
 use Rattle.slicer.proofs.net.ipv6_exts_slice.Given as goal
 

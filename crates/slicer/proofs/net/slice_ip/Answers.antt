@@ -5,7 +5,6 @@ use Rattle.slicer.specs.Legs.{went, stuck, exts_leg_on_paper}
 use Rattle.one_header.specs.At.{ip_at_on_paper}
 use mathlib.Core.Path.{ap}
 use native.Mathlib.Omega.{arith}
-use Rattle.std.proofs.Common.{rules}
 use Rattle.slicer.proofs.net.slice_ip.Goals as goal
 
 pub returns-in-Refused : goal.returns-in-Refused

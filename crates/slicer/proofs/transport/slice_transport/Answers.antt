@@ -7,7 +7,6 @@ use Rattle.slicer.specs.declared.transport.TransportFound.{TransportFound}
 use Rattle.one_header.specs.At.{transport_at_on_paper}
 use mathlib.Core.Path.{sym, ap, ◌∙◌}
 use native.Mathlib.Omega.{arith}
-use Rattle.std.proofs.Common.{rules}
 use Rattle.slicer.proofs.transport.slice_transport.Goals as goal
 
 pub opened-requires : goal.opened-requires

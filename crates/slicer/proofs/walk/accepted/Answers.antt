@@ -2,7 +2,6 @@
 use mathlib.Core.Path.{refl}
 use Rattle.slicer.proofs.Slices.{tags_length}
 use Rattle.rules.specs.Numbers.{ethernet_length}
-use Rattle.std.proofs.Common.{rules}
 use Rattle.slicer.proofs.walk.accepted.Goals as goal
 
 pub returns : goal.returns

@@ -1,11 +1,9 @@
 -- `walk::behind_link` meets its contract. Assumes nothing.
-use Rattle.slicer.proofs.Answers.{there, turned}
+use Rattle.slicer.proofs.Answers.{there}
 use Rattle.slicer.specs.Legs.{net_leg_on_paper, link_parts}
 use Rattle.one_header.specs.Turns.{ip_kind_of}
 use mathlib.Core.Bool.{false}
-use mathlib.Core.Path.{refl, sym, ap, ◌∙◌}
-use native.Mathlib.Omega.{arith}
-use Rattle.std.proofs.Common.{rules}
+use mathlib.Core.Path.{sym, ap, ◌∙◌}
 use Rattle.slicer.proofs.walk.behind_link.Goals as goal
 
 pub returns-in-Open : goal.returns-in-Open

@@ -1,7 +1,6 @@
 -- `walk::refused` meets its contract. Assumes nothing.
 use Rattle.slicer.specs.Reply.{slots}
 use mathlib.Core.Path.{refl}
-use Rattle.std.proofs.Common.{rules}
 use Rattle.slicer.proofs.walk.refused.Goals as goal
 
 pub returns : goal.returns

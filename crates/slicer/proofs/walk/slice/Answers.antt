@@ -2,9 +2,7 @@
 use Rattle.slicer.proofs.Answers.{there, turned}
 use Rattle.slicer.proofs.Slices.{reply_is, to_ip, to_stop}
 use Rattle.slicer.specs.Legs.{link_leg_on_paper}
-use mathlib.Core.Path.{refl, sym, ap, ◌∙◌}
-use native.Mathlib.Omega.{arith}
-use Rattle.std.proofs.Common.{rules}
+use mathlib.Core.Path.{sym, ap, ◌∙◌}
 use Rattle.slicer.proofs.walk.slice.Goals as goal
 
 pub returns-in-Refused-clause-reply : goal.returns-in-Refused-clause-reply

@@ -1,15 +1,9 @@
 -- `walk::tag_headers` meets its contract. Assumes nothing.
-use Rattle.slicer.proofs.Slices.{filled, filled_none, filled_next, filled_last}
+use Rattle.slicer.proofs.Slices.{filled_none, filled_next, filled_last}
 use Rattle.slicer.specs.Reply.{slots}
 use Rattle.slicer.specs.Legs.{tags_from}
-use Rattle.rules.specs.Numbers.{ethernet_length, tag_length, tag_limit}
-use Rattle.rules.specs.Named.{kind_number}
-use Rattle.rules.specs.declared.kind.Kind.TheVariants.{Vlan}
-use mathlib.Core.Logic.{⊎_elim}
-use mathlib.Core.Path.{◌≡◌, refl, ap, ◌∙◌}
+use mathlib.Core.Path.{refl, ◌∙◌}
 use native.Mathlib.Omega.{arith}
-use Prim.Native.Nat.{ℕ, ◌+◌, ◌-◌, ◌*◌, ◌≤◌}
-use Rattle.std.proofs.Common.{rules}
 use Rattle.slicer.proofs.walk.tag_headers.Goals as goal
 use Rattle.slicer.proofs.walk.tag_headers.Goals.{then-i-count, else-i-count}
 

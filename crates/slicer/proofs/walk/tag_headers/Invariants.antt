@@ -1,14 +1,10 @@
 -- `walk::tag_headers` meets its contract. Assumes nothing.
-use Rattle.slicer.proofs.Slices.{filled, filled_none, filled_next, filled_last}
-use Rattle.slicer.specs.Reply.{slots}
-use Rattle.slicer.specs.Legs.{tags_from}
+use Rattle.slicer.proofs.Slices.{filled}
 use Rattle.rules.specs.Numbers.{ethernet_length, tag_length, tag_limit}
 use Rattle.rules.specs.Named.{kind_number}
 use Rattle.rules.specs.declared.kind.Kind.TheVariants.{Vlan}
-use mathlib.Core.Logic.{⊎_elim}
-use mathlib.Core.Path.{◌≡◌, refl, ap, ◌∙◌}
-use native.Mathlib.Omega.{arith}
-use Prim.Native.Nat.{ℕ, ◌+◌, ◌-◌, ◌*◌, ◌≤◌}
+use mathlib.Core.Path.{◌≡◌}
+use Prim.Native.Nat.{◌+◌, ◌-◌, ◌*◌, ◌≤◌}
 use Rattle.slicer.proofs.walk.tag_headers.Given as goal
 
 abbrev pub invariant-loop-i : goal.invariant-loop-i

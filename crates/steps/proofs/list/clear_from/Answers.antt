@@ -1,11 +1,10 @@
 -- `list::clear_from` meets its contract. Assumes nothing.
 use mathlib.Core.Path.{◌≡◌, sym, ap, ◌∙◌}
 use mathlib.Core.List.{List}
-use Prim.Native.Nat.{ℕ, ◌+◌, ◌-◌, ◌≤◌}
+use Prim.Native.Nat.{ℕ, ◌+◌}
 use native.Mathlib.Omega.{arith}
 use lib.ListN.{length}
 use Rattle.steps.specs.Kept.{partly, partly_none, partly-length, partly_more, partly-all}
-use Rattle.std.proofs.Common.{rules}
 use Rattle.steps.proofs.list.clear_from.Goals as goal
 
 long : (o : List ℕ) (from n : ℕ) {out : List ℕ} → out ≡ partly from n o → length out ≡ length o

@@ -1,10 +1,8 @@
 -- `list::clear_from` meets its contract. Assumes nothing.
-use mathlib.Core.Path.{◌≡◌, sym, ap, ◌∙◌}
-use mathlib.Core.List.{List}
-use Prim.Native.Nat.{ℕ, ◌+◌, ◌-◌, ◌≤◌}
-use native.Mathlib.Omega.{arith}
+use mathlib.Core.Path.{◌≡◌}
+use Prim.Native.Nat.{ℕ, ◌+◌, ◌-◌}
 use lib.ListN.{length}
-use Rattle.steps.specs.Kept.{partly, partly_none, partly-length, partly_more, partly-all}
+use Rattle.steps.specs.Kept.{partly}
 use Rattle.steps.proofs.list.clear_from.Given as goal
 
 -- so many numbers behind the kept ones are zeros

@@ -2,8 +2,7 @@
 use Rattle.steps.proofs.Loop.{header-here, header_past, header_refused}
 use Rattle.steps.specs.Lists.{count_on_paper}
 use Rattle.rules.specs.Walk.{slices}
-use mathlib.Core.Path.{refl, sym, ap, ◌∙◌}
-use Rattle.std.proofs.Common.{rules}
+use mathlib.Core.Path.{sym, ap, ◌∙◌}
 use Rattle.steps.proofs.list.header.Goals as goal
 
 pub returns-then-k-count-clause-answer : goal.returns-then-k-count-clause-answer

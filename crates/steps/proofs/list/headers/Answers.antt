@@ -1,17 +1,13 @@
 -- `list::headers` meets its contract. Assumes nothing.
-use Rattle.steps.proofs.Loop.{list_accepted, list_refused, slices-from, Going, going_first, going_long, going_refused, Past}
+use Rattle.steps.proofs.Loop.{list_accepted, list_refused, slices-from, going_first, going_long, going_refused, Past}
 use Rattle.steps.proofs.Loop.{past_stored, past_full, past_early, past_long, past_halt, past_late, past_on}
-use Rattle.rules.specs.Walk.{trace}
-use Rattle.rules.specs.Place.{place}
-use lib.ListN.{length, length-set}
-use mathlib.Core.Logic.{⊎_elim}
-use mathlib.Core.Path.{refl, ap, ◌∙◌}
+use lib.ListN.{length}
+use mathlib.Core.Path.{ap, ◌∙◌}
 use mathlib.Core.List.{List}
-use Prim.Native.Nat.{ℕ, ◌-◌, ◌*◌}
+use Prim.Native.Nat.{ℕ, ◌*◌}
 use Rattle.laws.specs.Zeros.{zeros}
-use Rattle.steps.specs.Kept.{kept, kept-length}
+use Rattle.steps.specs.Kept.{kept}
 use native.Mathlib.Omega.{arith}
-use Rattle.std.proofs.Common.{rules}
 use Rattle.steps.proofs.list.headers.Goals as goal
 use Rattle.steps.proofs.list.headers.Goals.{Joined-k-count, then-k-count+then-to-spare, then-k-count+else-to-spare, else-k-count}
 

@@ -1,8 +1,7 @@
 -- `place::first` meets its contract. Assumes nothing.
 use Rattle.rules.specs.Place.{start}
-use mathlib.Core.Path.{refl, ap}
+use mathlib.Core.Path.{ap}
 use Rattle.steps.specs.Places.{opens}
-use Rattle.std.proofs.Common.{rules}
 use Rattle.steps.proofs.place.first.Goals as goal
 
 pub returns-clause-answer : goal.returns-clause-answer

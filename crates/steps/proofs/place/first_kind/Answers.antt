@@ -1,7 +1,6 @@
 -- `place::first_kind` meets its contract. Assumes nothing.
 use Rattle.rules.specs.Place.{opening}
 use mathlib.Core.Path.{refl}
-use Rattle.std.proofs.Common.{rules}
 use Rattle.steps.proofs.place.first_kind.Goals as goal
 
 pub returns-in-Ethernet : goal.returns-in-Ethernet

@@ -6,7 +6,6 @@ use borrow.Author.Tests.{le-leb, lt-leb}
 use Prim.Native.Nat.{ℕ, ◌+◌, ◌-◌}
 use native.Mathlib.Omega.{arith}
 use mathlib.Core.Path.{◌≡◌, refl}
-use Rattle.std.proofs.Common.{rules}
 use Rattle.steps.proofs.place.next.Goals as goal
 use Rattle.steps.proofs.place.next.Goals.{Else-room-gt-IP_LIMIT}
 

@@ -1,7 +1,6 @@
 -- `kind::has_size` meets its contract. Assumes nothing.
 use Rattle.tcp_options.specs.Options.{sizes_of}
 use Rattle.tcp_options.proofs.Sizes.{same_bool}
-use Rattle.std.proofs.Common.{rules}
 use Rattle.tcp_options.proofs.kind.has_size.Goals as goal
 
 pub returns-in-Noop : goal.returns-in-Noop

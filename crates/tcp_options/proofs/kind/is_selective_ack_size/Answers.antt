@@ -1,7 +1,6 @@
 -- `kind::is_selective_ack_size` meets its contract. Assumes nothing.
 use Rattle.tcp_options.specs.Options.{sizes_of}
 use Rattle.tcp_options.proofs.Sizes.{four_blocks}
-use Rattle.std.proofs.Common.{rules}
 use Rattle.tcp_options.proofs.kind.is_selective_ack_size.Goals as goal
 
 pub returns-then-len-eq-LEN_SELECTIVE_ACK_1 : goal.returns-then-len-eq-LEN_SELECTIVE_ACK_1

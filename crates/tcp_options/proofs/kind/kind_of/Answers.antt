@@ -1,7 +1,6 @@
 -- `kind::kind_of` meets its contract. Assumes nothing.
 use Rattle.tcp_options.specs.Options.{named}
 use Rattle.tcp_options.proofs.Sizes.{named_unknown}
-use Rattle.std.proofs.Common.{rules}
 use Rattle.tcp_options.proofs.kind.kind_of.Goals as goal
 
 pub returns-then-number-eq-NOOP : goal.returns-then-number-eq-NOOP
@@ -36,4 +35,5 @@ returns-then-number-eq-TIMESTAMP c =
 
 pub returns : goal.returns
 returns c =
-    named_unknown _ c.if-number-eq-NOOP.false c.if-number-eq-MAXIMUM_SEGMENT_SIZE.false c.if-number-eq-WINDOW_SCALE.false c.if-number-eq-SELECTIVE_ACK_PERMITTED.false c.if-number-eq-SELECTIVE_ACK.false c.if-number-eq-TIMESTAMP.false
+    named_unknown _ c.if-number-eq-NOOP.false c.if-number-eq-MAXIMUM_SEGMENT_SIZE.false c.if-number-eq-WINDOW_SCALE.false
+    c.if-number-eq-SELECTIVE_ACK_PERMITTED.false c.if-number-eq-SELECTIVE_ACK.false c.if-number-eq-TIMESTAMP.false

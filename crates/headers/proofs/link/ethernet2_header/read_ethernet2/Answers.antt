@@ -1,10 +1,8 @@
 -- `link::ethernet2_header::read_ethernet2` meets its contract. Assumes nothing.
 use Rattle.rules.specs.Test.{beyond}
-use mathlib.Core.Path.{ap, refl}
+use mathlib.Core.Path.{ap}
 use Rattle.rules.specs.Rules.{says, tests_by, seen_by, ether_type_of}
 use Rattle.rules.specs.Test.{on, off, done, judged}
-use native.Mathlib.Omega.{arith}
-use Rattle.std.proofs.Common.{rules}
 use Rattle.headers.proofs.link.ethernet2_header.read_ethernet2.Goals as goal
 
 pub returns-then-have-lt-ETHERNET2-clause-answer : goal.returns-then-have-lt-ETHERNET2-clause-answer

@@ -4,7 +4,6 @@ use mathlib.Core.Path.{refl}
 use Rattle.rules.specs.Rules.{says, tests_by, seen_by}
 use Rattle.rules.specs.Test.{on, off, done, judged}
 use native.Mathlib.Omega.{arith}
-use Rattle.std.proofs.Common.{rules}
 use Rattle.headers.proofs.net.ip_auth_header.read_auth.Goals as goal
 
 pub returns-then-have-lt-AUTH-clause-answer : goal.returns-then-have-lt-AUTH-clause-answer

@@ -3,8 +3,6 @@ use Rattle.rules.specs.Test.{beyond}
 use mathlib.Core.Path.{refl}
 use Rattle.rules.specs.Rules.{says, tests_by, seen_by}
 use Rattle.rules.specs.Test.{on, off, done, judged}
-use native.Mathlib.Omega.{arith}
-use Rattle.std.proofs.Common.{rules}
 use Rattle.headers.proofs.net.ipv4_header.read_ipv4.Goals as goal
 
 pub returns-then-have-lt-IPV4-clause-answer : goal.returns-then-have-lt-IPV4-clause-answer
@@ -37,7 +35,8 @@ returns-then-total-len-clause-answer c =
 pub returns-then-have-total-clause-answer : goal.returns-then-have-total-clause-answer
 unfolding says tests_by seen_by
 returns-then-have-total-clause-answer c =
-    λ v. simp (← c.byte-first.ensures.answer, ← c.be16-total.ensures.answer) (judged (on c.if-have-lt-IPV4.false (on c.if-version-ne4.false (on c.if-ihl-lt-LEAST_WORDS.false (on c.if-have-len.false (on
+    λ v. simp (← c.byte-first.ensures.answer, ← c.be16-total.ensures.answer) (judged (on c.if-have-lt-IPV4.false (on c.if-version-ne4.false (on c.if-ihl-lt-LEAST_WORDS.false
+    (on c.if-have-len.false (on
     c.if-total-len.false (off (beyond c.if-have-total.true) refl)))))))
 
 pub returns-clause-answer : goal.returns-clause-answer

@@ -5,7 +5,6 @@ use mathlib.Core.Path.{refl}
 use Rattle.rules.specs.Rules.{says, tests_by, seen_by}
 use Rattle.rules.specs.Test.{on, off, done, judged}
 use native.Mathlib.Omega.{arith}
-use Rattle.std.proofs.Common.{rules}
 use Rattle.headers.proofs.net.ipv6_header.read_ipv6.Goals as goal
 
 pub returns-then-have-lt-IPV6-clause-answer : goal.returns-then-have-lt-IPV6-clause-answer

@@ -3,8 +3,6 @@ use Rattle.rules.specs.Test.{beyond}
 use mathlib.Core.Path.{refl}
 use Rattle.rules.specs.Rules.{says, tests_by, seen_by}
 use Rattle.rules.specs.Test.{on, off, done, judged}
-use native.Mathlib.Omega.{arith}
-use Rattle.std.proofs.Common.{rules}
 use Rattle.headers.proofs.net.ipv6_raw_ext_header.read_raw_ext.Goals as goal
 
 pub returns-then-have-lt-RAW_EXT-clause-answer : goal.returns-then-have-lt-RAW_EXT-clause-answer

@@ -5,7 +5,6 @@ use mathlib.Core.Path.{refl}
 use Rattle.rules.specs.Rules.{says, tests_by, seen_by}
 use Rattle.rules.specs.Test.{on, off, done, judged}
 use native.Mathlib.Omega.{arith}
-use Rattle.std.proofs.Common.{rules}
 use Rattle.headers.proofs.transport.udp_header.read_udp.Goals as goal
 
 pub returns-then-have-lt-UDP-clause-answer : goal.returns-then-have-lt-UDP-clause-answer

@@ -1,8 +1,6 @@
 -- `packet::SlicedPacket::tcp_options` meets its contract. Assumes nothing.
 use Rattle.slicer.specs.Options.{no_header, not_tcp, begins_outside, ends_outside, too_small, there}
-use native.Mathlib.Omega.{arith}
-use mathlib.Core.Path.{refl, sym, ◌∙◌}
-use Rattle.std.proofs.Common.{rules}
+use mathlib.Core.Path.{sym, ◌∙◌}
 use Rattle.slicer.proofs.packet.SlicedPacket.tcp_options.Goals as goal
 
 pub returns-in_default-clause-answer : goal.returns-in_default-clause-answer
