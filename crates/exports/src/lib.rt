@@ -84,12 +84,7 @@ pub fn bhirkulom_slice(frame: &[u8], entry: usize) -> Packet
 
 // The headers of a frame from number k on, three numbers each (kind, offset, length), as many as the lent numbers have room for, and zeros
 // behind them; the answer is the count. Of a refused frame, and for a number that no entry has, there are zeros alone.
-pub fn bhirkulom_headers(
-    frame: &[u8],
-    entry: usize,
-    k: usize,
-    heads: &mut [usize],
-) -> CountReply
+pub fn bhirkulom_headers(frame: &[u8], entry: usize, k: usize, heads: &mut [usize]) -> CountReply
     ensures answer { result ≡ count_for (entry_by entry) frame.now }
     ensures listed { heads.new ≡ list_for (entry_by entry) frame.now k (length heads.old) }
     ensures unwritten { frame.exit.now ≡ frame.entry.now }
