@@ -1,7 +1,8 @@
 -- `read_option` meets its contract. Assumes nothing.
 use Rattle.tcp_options.specs.OneOption.{read_none, read_end, read-noop, read_no_length, read_not_sound, read_wrong, read_right}
 use Rattle.tcp_options.specs.Options.{answer_by}
-use mathlib.Core.Path.{sym, ap, ◌∙◌}
+use mathlib.Core.Bool.{true}
+use mathlib.Core.Path.{◌≡◌, sym, ap, ◌∙◌}
 use Rattle.tcp_options.proofs.read_option.Goals as goal
 
 pub returns-then-s-at : goal.returns-then-s-at
@@ -57,6 +58,7 @@ returns-then-not-length_is_sound c =
 
 pub returns-then-not-size_is_right : goal.returns-then-not-size_is_right
 returns-then-not-size_is_right c =
+    let sound : c.is_sound-length_is_sound.result ≡ true = cc in
     sym
     (ap (answer_by _)
     (read_wrong
@@ -69,7 +71,7 @@ returns-then-not-size_is_right c =
     c.if-number-eq-NOOP.false
     c.if-have-lt-LEN_LEAST.false
     c.byte-len.ensures.answer
-    (sym c.is_sound-length_is_sound.ensures ∙ c.if-not-length_is_sound.false)
+    (sym c.is_sound-length_is_sound.ensures ∙ sound)
     (sym c.has_size-size_is_right.ensures ∙ c.if-not-size_is_right.true)))
 
 pub returns : goal.returns
