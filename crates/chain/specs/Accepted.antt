@@ -1,4 +1,4 @@
--- "A frame is accepted exactly when it has a chain": accepted-iff-chain, for each entry.
+-- "A frame is accepted exactly when it has a chain": accepted_iff_chain, for each entry.
 use Rattle.std.specs.Prelude.{ℕ, ◌≡◌, refl, List}
 use Rattle.std.proofs.Common.{sym, ap, ◌∙◌, subst, arith}
 use Rattle.rules.specs.Place.{Stopped, ending_on_paper}

@@ -1,5 +1,5 @@
--- "asking for header 0, 1, 2 and so on gives every header of it, once, in order, and then no more": headers-in-order, each-once;
--- "a made-up header count (it is the chain's length)": count-is-length; the headers as numbers: list-in-order. For each entry.
+-- "asking for header 0, 1, 2 and so on gives every header of it, once, in order, and then no more": headers_in_order, each_once;
+-- "a made-up header count (it is the chain's length)": count_is_length; the headers as numbers: list_in_order. For each entry.
 use Rattle.std.specs.Prelude.{ℕ, zero, suc, ◌≤◌, ◌<◌, ◌+◌, ◌-◌, ◌≡◌, refl, List, [], ◌∷◌, map, length}
 use Rattle.std.proofs.Common.{sym, ap, ◌∙◌, arith}
 use Rattle.rules.specs.declared.place.Header.{Header}

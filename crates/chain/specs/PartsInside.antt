@@ -1,4 +1,4 @@
--- Every part that a reply or an exported packet tells of an accepted frame lies in the frame: a caller may take its bytes unasked.
+-- Every part that a reply tells of an accepted frame lies in the frame: a caller may take its bytes unasked.
 use Rattle.std.specs.Prelude.{ℕ, zero, suc, ◌+◌, ◌≤◌, ◌≡◌, refl, List, [], ◌∷◌, ◌++◌, Bool, length}
 use Rattle.std.proofs.Common.{sym, subst, arith}
 use Rattle.rules.specs.declared.entry.Entry.{Entry}

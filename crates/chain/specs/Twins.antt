@@ -35,7 +35,7 @@ pub data LinksFrom (s : List ℕ) : Follow → Place → Type 0 where
   opened : {p r : Place} → Links s p r → LinksFrom s (next p) r
 
 -- at p stands an accepted header whose declared length is nonzero, and t has all the bytes of s up to that length. That it covers
--- the header and fits its room follows from the tests that it passed (covers-and-fits).
+-- the header and fits its room follows from the tests that it passed (covers_and_fits).
 pub record Declares (s t : List ℕ) (p : Place) : Type 0 where
   pub accepted : Stands s p
   pub some : 1 ≤ declared_at s p

@@ -4,7 +4,7 @@ ghost use Rattle.rules.specs.declared.entry.Entry.{Entry};
 ghost use Rattle.exports.specs.declared.Chosen.TheVariants as C;
 ghost use Rattle.exports.specs.Handed.{entry_by};
 ghost use Rattle.chain.specs.Exported.{PacketTells, HeaderTells, CountTells, OptionReplyTells};
-ghost use Rattle.chain.specs.Frames.{ask, sum as sum_of, no_zero, checksum};
+ghost use Rattle.chain.specs.Frames.{ask, sum as sum_question, no_zero, checksum};
 ghost use Rattle.chain.specs.Headers.{ListInOrder};
 
 use exports::handed::{CountReply, HeaderReply, OptionReply, Packet};
@@ -46,7 +46,7 @@ pub fn option(bytes: &[u8], k: usize) -> OptionReply
 }
 
 pub fn sum_of(first: &[u8], second: &[u8]) -> u16
-    ensures { checksum result ≡ ask (sum_of (first.now ∷ second.now ∷ [])) }
+    ensures { checksum result ≡ ask (sum_question (first.now ∷ second.now ∷ [])) }
 {
     let one = bhirkulom_sum_add(0, first);
     let both = bhirkulom_sum_add(one, second);

@@ -1,6 +1,6 @@
 // Places: where a walk begins, and the step from one header to the next, for a caller that lists headers itself.
 ghost use Rattle.std.specs.Prelude.{◌≡◌, List, ℕ, ◌+◌, ◌-◌, ◌<◌, ◌^◌};
-ghost use Rattle.rules.specs.Place.{tags_with, ips_with, entered, next as nextPlace, start, opening};
+ghost use Rattle.rules.specs.Place.{tags_with, ips_with, entered, next as next_place, start, opening};
 ghost use Rattle.one_header.specs.Header.{left_by};
 ghost use Rattle.steps.specs.Places.{opens, step_on_paper, step_says};
 
@@ -67,7 +67,7 @@ pub fn room_behind(kind: Kind, at: usize, x: HeaderFound, room: Room) -> Room
 
 // The kind of a frame's first header.
 fn first_kind(entry: Entry) -> Kind
-    ensures { (s : List ℕ) → nextPlace (start result s) ≡ opening entry s }
+    ensures { (s : List ℕ) → next_place (start result s) ≡ opening entry s }
 {
     match entry {
         Entry::Ethernet => Kind::Ethernet2,
@@ -88,7 +88,7 @@ fn minus(a: usize, b: usize) -> usize
 
 // The place of a frame's first header.
 pub fn first(s: &[u8], entry: Entry) -> Place
-    ensures answer { opens (nextPlace result) ≡ opens (opening entry s.now) }
+    ensures answer { opens (next_place result) ≡ opens (opening entry s.now) }
     ensures unwritten { s.exit.now ≡ s.entry.now }
 {
     let kind = first_kind(entry);
