@@ -1,7 +1,7 @@
 // Reads one Ethernet frame from standard input, to the input's end, and prints its headers, its payload and why the walk
 // stopped, or its refusal (document 01, F12). An input of more than 65,536 bytes prints `too long`. Where a read fails
 // nothing is printed, whatever arrived before it, and standard error says so. It says too where the answer can't be written.
-// A proved program has no exit status of its own: bin/slice gives 2 where there is no answer.
+// Its exit status is 0 all the same: bin/slice gives 2 where there is no answer.
 #![tactic(auto)]
 
 ghost use Rattle.std.specs.Prelude.{◌≤◌, ◌≡◌, length, take};
