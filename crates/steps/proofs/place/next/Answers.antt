@@ -9,9 +9,11 @@ use mathlib.Core.Path.{◌≡◌, refl}
 use Rattle.steps.proofs.place.next.Goals as goal
 use Rattle.steps.proofs.place.next.Goals.{Else-room-gt-IP_LIMIT}
 
+-- the payload's length, counted from the header or from the frame's start
 payload-len : (at to len : ℕ) → to - len ≡ at + to - (at + len)
 payload-len at to len = omega arith
 
+-- behind the four tests, the place is one
 place_here : (c : Else-room-gt-IP_LIMIT) → PlaceIn c.args.s.now c.args.place
 place_here c =
     record {
