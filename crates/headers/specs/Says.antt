@@ -1,43 +1,24 @@
 -- What the readers say, from the table of crate rules: the fields of a header that passes its tests, or the first failed.
-use Rattle.std.specs.Prelude.{ℕ, List}
+use Rattle.std.specs.Prelude.{ℕ, List, Result, Ok, Err}
 use Rattle.rules.specs.declared.ether_type.EtherType.{EtherType}
 use Rattle.rules.specs.declared.ip_number.IpNumber.{IpNumber}
 use Rattle.rules.specs.declared.kind.Kind.{Kind}
 use Rattle.rules.specs.declared.kind.Kind.TheVariants.{Udp, Tcp}
 use Rattle.rules.specs.declared.place.Number.{Number}
 use Rattle.rules.specs.declared.place.Number.TheVariants.{Link, Ip}
+use Rattle.rules.specs.declared.refusal.Fault.{Fault}
 use Rattle.rules.specs.Test.{Verdict, whole, failed}
 use Rattle.rules.specs.Paper.{fault_on_paper}
 use Rattle.rules.specs.Rules.{Rule, rule, raw_rule, ether_type_of, ip_number_of, udp_end, tcp_end, says}
-use Rattle.headers.specs.declared.link.LinkRead.{LinkRead}
-use Rattle.headers.specs.declared.link.LinkRead.TheVariants as L
 use Rattle.headers.specs.declared.net.IpHeader.{IpHeader}
-use Rattle.headers.specs.declared.net.IpRead.{IpRead}
-use Rattle.headers.specs.declared.net.IpRead.TheVariants as I
 use Rattle.headers.specs.declared.net.ExtHeader.{ExtHeader}
-use Rattle.headers.specs.declared.net.ExtRead.{ExtRead}
-use Rattle.headers.specs.declared.net.ExtRead.TheVariants as E
 use Rattle.headers.specs.declared.transport.TransportHeader.{TransportHeader}
-use Rattle.headers.specs.declared.transport.TransportRead.{TransportRead}
-use Rattle.headers.specs.declared.transport.TransportRead.TheVariants as T
 
 -- ---- the answers on paper: what a whole header says, or the row of the refusal
 
-abbrev pub link_on_paper : LinkRead → Verdict EtherType
-link_on_paper (L.Whole x) = whole x
-link_on_paper (L.Refused f) = failed (fault_on_paper f)
-
-abbrev pub ip_on_paper : IpRead → Verdict IpHeader
-ip_on_paper (I.Whole x) = whole x
-ip_on_paper (I.Refused f) = failed (fault_on_paper f)
-
-abbrev pub ext_on_paper : ExtRead → Verdict ExtHeader
-ext_on_paper (E.Whole x) = whole x
-ext_on_paper (E.Refused f) = failed (fault_on_paper f)
-
-abbrev pub transport_on_paper : TransportRead → Verdict TransportHeader
-transport_on_paper (T.Whole x) = whole x
-transport_on_paper (T.Refused f) = failed (fault_on_paper f)
+abbrev pub read_on_paper : {A : Type 0} → Result A Fault → Verdict A
+read_on_paper (Ok x) = whole x
+read_on_paper (Err f) = failed (fault_on_paper f)
 
 -- ---- the fields, by a kind's rule
 

@@ -14,7 +14,6 @@ pub mod link;
 pub mod net;
 pub mod transport;
 
-pub use link::LinkRead;
 pub use link::ethernet2_header::read_ethernet2;
 pub use link::single_vlan_header::read_vlan;
 pub use net::ip_auth_header::read_auth;
@@ -22,10 +21,10 @@ pub use net::ipv4_header::read_ipv4;
 pub use net::ipv6_fragment_header::read_fragment;
 pub use net::ipv6_header::read_ipv6;
 pub use net::ipv6_raw_ext_header::read_raw_ext;
-pub use net::{ExtHeader, ExtRead, IpHeader, IpRead};
+pub use net::{ExtHeader, IpHeader};
+pub use transport::TransportHeader;
 pub use transport::tcp_header::read_tcp;
 pub use transport::udp_header::read_udp;
-pub use transport::{TransportHeader, TransportRead};
 
 // A header that is not whole in its room.
 fn too_short(kind: Kind, required: usize, have: usize) -> Fault

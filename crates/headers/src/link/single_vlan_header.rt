@@ -1,21 +1,20 @@
 // A VLAN tag, behind the tag type: priority and identifier, then the type of what follows (IEEE 802.1Q, clause 9.6).
 ghost use Rattle.std.specs.Prelude.{◌≡◌, ℕ};
-ghost use Rattle.headers.specs.Says.{link_on_paper, link_says};
+ghost use Rattle.headers.specs.Says.{read_on_paper, link_says};
 ghost use Rattle.rules.specs.declared.kind.Kind.TheVariants as K;
 
-use crate::link::LinkRead;
 use crate::too_short;
 use big_endian::be16;
-use rules::{EtherType, Kind, field, length};
+use rules::{EtherType, Fault, Kind, field, length};
 
 // `VLAN-1`, `VLAN-2`
-pub fn read_vlan(w: &[u8]) -> LinkRead
-    ensures answer { (v : ℕ) → link_on_paper result ≡ link_says K.Vlan v w.now }
+pub fn read_vlan(w: &[u8]) -> Result<EtherType, Fault>
+    ensures answer { (v : ℕ) → read_on_paper result ≡ link_says K.Vlan v w.now }
     ensures unwritten { w.exit.now ≡ w.entry.now }
 {
     let have = w.len();
     if have < length::VLAN {
-        return LinkRead::Refused(too_short(Kind::Vlan, length::VLAN, have));
+        return Err(too_short(Kind::Vlan, length::VLAN, have));
     }
-    LinkRead::Whole(EtherType(be16(w, field::VLAN_TYPE)))
+    Ok(EtherType(be16(w, field::VLAN_TYPE)))
 }

@@ -1,31 +1,31 @@
 // The IP authentication header (RFC 4302, section 2). Its length byte counts words of four bytes, two less than there are.
 ghost use Rattle.std.specs.Prelude.{◌≡◌, ℕ};
-ghost use Rattle.headers.specs.Says.{ext_on_paper, ext_says};
+ghost use Rattle.headers.specs.Says.{read_on_paper, ext_says};
 ghost use Rattle.rules.specs.declared.kind.Kind.TheVariants as K;
 
-use crate::net::{ExtHeader, ExtRead};
+use crate::net::ExtHeader;
 use crate::too_short;
 use big_endian::byte;
 use rules::{Fault, Fragment, IpNumber, Kind, field, length};
 
 // `AUTH-1` to `AUTH-4`
-pub fn read_auth(w: &[u8]) -> ExtRead
-    ensures answer { (v : ℕ) → ext_on_paper result ≡ ext_says K.Auth v w.now }
+pub fn read_auth(w: &[u8]) -> Result<ExtHeader, Fault>
+    ensures answer { (v : ℕ) → read_on_paper result ≡ ext_says K.Auth v w.now }
     ensures unwritten { w.exit.now ≡ w.entry.now }
 {
     let have = w.len();
     if have < length::AUTH {
-        return ExtRead::Refused(too_short(Kind::Auth, length::AUTH, have));
+        return Err(too_short(Kind::Auth, length::AUTH, have));
     }
     let words = byte(w, field::EXT_LENGTH) as usize;
     if words == 0 {
-        return ExtRead::Refused(Fault::ZeroAuthLength);
+        return Err(Fault::ZeroAuthLength);
     }
     let len = (words + 2) * 4;
     if have < len {
-        return ExtRead::Refused(too_short(Kind::Auth, len, have));
+        return Err(too_short(Kind::Auth, len, have));
     }
-    ExtRead::Whole(ExtHeader {
+    Ok(ExtHeader {
         len,
         names: IpNumber(byte(w, field::EXT_NEXT_HEADER)),
         fragment: Fragment::Not,

@@ -1,38 +1,38 @@
 // The IPv4 header (RFC 791, section 3.1).
 ghost use Rattle.std.specs.Prelude.{◌≡◌, ℕ};
-ghost use Rattle.headers.specs.Says.{ip_on_paper, ip_says};
+ghost use Rattle.headers.specs.Says.{read_on_paper, ip_says};
 ghost use Rattle.rules.specs.declared.kind.Kind.TheVariants as K;
 
-use crate::net::{IpHeader, IpRead};
+use crate::net::IpHeader;
 use crate::too_short;
 use big_endian::{be16, byte};
 use rules::{Bound, Fault, Fragment, IpNumber, Kind, Layer, field, length};
 
 // `IP4-1` to `IP4-8`
-pub fn read_ipv4(w: &[u8]) -> IpRead
-    ensures answer { (v : ℕ) → ip_on_paper result ≡ ip_says K.Ipv4 v w.now }
+pub fn read_ipv4(w: &[u8]) -> Result<IpHeader, Fault>
+    ensures answer { (v : ℕ) → read_on_paper result ≡ ip_says K.Ipv4 v w.now }
     ensures unwritten { w.exit.now ≡ w.entry.now }
 {
     let have = w.len();
     if have < length::IPV4 {
-        return IpRead::Refused(too_short(Kind::Ipv4, length::IPV4, have));
+        return Err(too_short(Kind::Ipv4, length::IPV4, have));
     }
     let first = byte(w, field::IPV4_VERSION_IHL) as usize;
     let version = first / 16;
     if version != 4 {
-        return IpRead::Refused(Fault::Ipv4Version { version });
+        return Err(Fault::Ipv4Version { version });
     }
     let ihl = first % 16;
     if ihl < length::LEAST_WORDS {
-        return IpRead::Refused(Fault::SmallIhl { ihl });
+        return Err(Fault::SmallIhl { ihl });
     }
     let len = ihl * 4;
     if have < len {
-        return IpRead::Refused(too_short(Kind::Ipv4, len, have));
+        return Err(too_short(Kind::Ipv4, len, have));
     }
     let total = be16(w, field::IPV4_TOTAL_LENGTH) as usize;
     if total < len {
-        return IpRead::Refused(Fault::TooShort {
+        return Err(Fault::TooShort {
             required: len,
             have: total,
             layer: Layer::Ipv4Packet,
@@ -40,7 +40,7 @@ pub fn read_ipv4(w: &[u8]) -> IpRead
         });
     }
     if have < total {
-        return IpRead::Refused(Fault::TooShort {
+        return Err(Fault::TooShort {
             required: total,
             have,
             layer: Layer::Ipv4Packet,
@@ -49,7 +49,7 @@ pub fn read_ipv4(w: &[u8]) -> IpRead
     }
     let word = be16(w, field::IPV4_FRAGMENT);
     let fragment = Fragment::by(word % 0x2000, word / 0x2000 % 2);
-    IpRead::Whole(IpHeader {
+    Ok(IpHeader {
         len,
         declared: total,
         names: IpNumber(byte(w, field::IPV4_PROTOCOL)),

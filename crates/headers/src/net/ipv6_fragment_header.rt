@@ -1,25 +1,25 @@
 // The IPv6 fragment header (RFC 8200, section 4.5).
 ghost use Rattle.std.specs.Prelude.{◌≡◌, ℕ};
-ghost use Rattle.headers.specs.Says.{ext_on_paper, ext_says};
+ghost use Rattle.headers.specs.Says.{read_on_paper, ext_says};
 ghost use Rattle.rules.specs.declared.kind.Kind.TheVariants as K;
 
-use crate::net::{ExtHeader, ExtRead};
+use crate::net::ExtHeader;
 use crate::too_short;
 use big_endian::{be16, byte};
-use rules::{Fragment, IpNumber, Kind, field, length};
+use rules::{Fault, Fragment, IpNumber, Kind, field, length};
 
 // `FRAG-1` to `FRAG-3`
-pub fn read_fragment(w: &[u8]) -> ExtRead
-    ensures answer { (v : ℕ) → ext_on_paper result ≡ ext_says K.Fragment v w.now }
+pub fn read_fragment(w: &[u8]) -> Result<ExtHeader, Fault>
+    ensures answer { (v : ℕ) → read_on_paper result ≡ ext_says K.Fragment v w.now }
     ensures unwritten { w.exit.now ≡ w.entry.now }
 {
     let have = w.len();
     if have < length::FRAGMENT {
-        return ExtRead::Refused(too_short(Kind::Fragment, length::FRAGMENT, have));
+        return Err(too_short(Kind::Fragment, length::FRAGMENT, have));
     }
     let word = be16(w, field::FRAGMENT_OFFSET);
     let fragment = Fragment::by(word / 8, word % 2);
-    ExtRead::Whole(ExtHeader {
+    Ok(ExtHeader {
         len: length::FRAGMENT,
         names: IpNumber(byte(w, field::EXT_NEXT_HEADER)),
         fragment,

@@ -1,30 +1,30 @@
 // The IPv6 header (RFC 8200, section 3).
 ghost use Rattle.std.specs.Prelude.{◌≡◌, ℕ};
-ghost use Rattle.headers.specs.Says.{ip_on_paper, ip_says};
+ghost use Rattle.headers.specs.Says.{read_on_paper, ip_says};
 ghost use Rattle.rules.specs.declared.kind.Kind.TheVariants as K;
 
-use crate::net::{IpHeader, IpRead};
+use crate::net::IpHeader;
 use crate::too_short;
 use big_endian::{be16, byte};
 use rules::{Bound, Fault, Fragment, IpNumber, Kind, Layer, field, length};
 
 // `IP6-1` to `IP6-4`
-pub fn read_ipv6(w: &[u8]) -> IpRead
-    ensures answer { (v : ℕ) → ip_on_paper result ≡ ip_says K.Ipv6 v w.now }
+pub fn read_ipv6(w: &[u8]) -> Result<IpHeader, Fault>
+    ensures answer { (v : ℕ) → read_on_paper result ≡ ip_says K.Ipv6 v w.now }
     ensures unwritten { w.exit.now ≡ w.entry.now }
 {
     let have = w.len();
     if have < length::IPV6 {
-        return IpRead::Refused(too_short(Kind::Ipv6, length::IPV6, have));
+        return Err(too_short(Kind::Ipv6, length::IPV6, have));
     }
     let version = (byte(w, field::IPV6_VERSION) as usize) / 16;
     if version != 6 {
-        return IpRead::Refused(Fault::Ipv6Version { version });
+        return Err(Fault::Ipv6Version { version });
     }
     let payload = be16(w, field::IPV6_PAYLOAD_LENGTH) as usize;
     let names = IpNumber(byte(w, field::IPV6_NEXT_HEADER));
     if payload == 0 {
-        return IpRead::Whole(IpHeader {
+        return Ok(IpHeader {
             len: length::IPV6,
             declared: 0,
             names,
@@ -33,14 +33,14 @@ pub fn read_ipv6(w: &[u8]) -> IpRead
     }
     let declared = length::IPV6 + payload;
     if have < declared {
-        return IpRead::Refused(Fault::TooShort {
+        return Err(Fault::TooShort {
             required: declared,
             have,
             layer: Layer::Ipv6Packet,
             bound: Bound::Room,
         });
     }
-    IpRead::Whole(IpHeader {
+    Ok(IpHeader {
         len: length::IPV6,
         declared,
         names,

@@ -1,5 +1,5 @@
 // What a reader of an IP header or of an extension header answers.
-use rules::{Fault, Fragment, IpNumber};
+use rules::{Fragment, IpNumber};
 
 pub mod ip_auth_header;
 pub mod ipv4_header;
@@ -17,20 +17,8 @@ pub struct IpHeader {
 }
 
 #[derive(Clone, Copy)]
-pub enum IpRead {
-    Whole(IpHeader),
-    Refused(Fault),
-}
-
-#[derive(Clone, Copy)]
 pub struct ExtHeader {
     pub names: IpNumber,
     pub len: usize,
     pub fragment: Fragment,
-}
-
-#[derive(Clone, Copy)]
-pub enum ExtRead {
-    Whole(ExtHeader),
-    Refused(Fault),
 }

@@ -1,6 +1,4 @@
 // What a reader of a transport header answers.
-use rules::Fault;
-
 pub mod tcp_header;
 pub mod udp_header;
 
@@ -9,10 +7,4 @@ pub struct TransportHeader {
     pub len: usize,
     // where the payload ends, counted from the header
     pub end: usize,
-}
-
-#[derive(Clone, Copy)]
-pub enum TransportRead {
-    Whole(TransportHeader),
-    Refused(Fault),
 }

@@ -1,28 +1,28 @@
 // The TCP header (RFC 9293, section 3.1). Its payload ends with its room.
 ghost use Rattle.std.specs.Prelude.{◌≡◌, ℕ};
-ghost use Rattle.headers.specs.Says.{transport_on_paper, tcp_says};
+ghost use Rattle.headers.specs.Says.{read_on_paper, tcp_says};
 
 use crate::too_short;
-use crate::transport::{TransportHeader, TransportRead};
+use crate::transport::TransportHeader;
 use big_endian::byte;
 use rules::{Fault, Kind, field, length};
 
 // `TCP-1` to `TCP-5`
-pub fn read_tcp(w: &[u8]) -> TransportRead
-    ensures answer { (v : ℕ) → transport_on_paper result ≡ tcp_says v w.now }
+pub fn read_tcp(w: &[u8]) -> Result<TransportHeader, Fault>
+    ensures answer { (v : ℕ) → read_on_paper result ≡ tcp_says v w.now }
     ensures unwritten { w.exit.now ≡ w.entry.now }
 {
     let have = w.len();
     if have < length::TCP {
-        return TransportRead::Refused(too_short(Kind::Tcp, length::TCP, have));
+        return Err(too_short(Kind::Tcp, length::TCP, have));
     }
     let value = (byte(w, field::TCP_DATA_OFFSET) as usize) / 16;
     if value < length::LEAST_WORDS {
-        return TransportRead::Refused(Fault::SmallDataOffset { value });
+        return Err(Fault::SmallDataOffset { value });
     }
     let len = value * 4;
     if have < len {
-        return TransportRead::Refused(too_short(Kind::Tcp, len, have));
+        return Err(too_short(Kind::Tcp, len, have));
     }
-    TransportRead::Whole(TransportHeader { len, end: have })
+    Ok(TransportHeader { len, end: have })
 }

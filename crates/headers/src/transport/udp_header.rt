@@ -1,30 +1,30 @@
 // The UDP header (RFC 768). A length of 0 means the rest of the room (RFC 2675, section 4).
 ghost use Rattle.std.specs.Prelude.{◌≡◌, ℕ};
-ghost use Rattle.headers.specs.Says.{transport_on_paper, udp_says};
+ghost use Rattle.headers.specs.Says.{read_on_paper, udp_says};
 
 use crate::too_short;
-use crate::transport::{TransportHeader, TransportRead};
+use crate::transport::TransportHeader;
 use big_endian::be16;
 use rules::{Bound, Fault, Kind, Layer, field, length};
 
 // `UDP-1` to `UDP-5`
-pub fn read_udp(w: &[u8]) -> TransportRead
-    ensures answer { (v : ℕ) → transport_on_paper result ≡ udp_says v w.now }
+pub fn read_udp(w: &[u8]) -> Result<TransportHeader, Fault>
+    ensures answer { (v : ℕ) → read_on_paper result ≡ udp_says v w.now }
     ensures unwritten { w.exit.now ≡ w.entry.now }
 {
     let have = w.len();
     if have < length::UDP {
-        return TransportRead::Refused(too_short(Kind::Udp, length::UDP, have));
+        return Err(too_short(Kind::Udp, length::UDP, have));
     }
     let end = be16(w, field::UDP_LENGTH) as usize;
     if end == 0 {
-        return TransportRead::Whole(TransportHeader {
+        return Ok(TransportHeader {
             len: length::UDP,
             end: have,
         });
     }
     if end < length::UDP {
-        return TransportRead::Refused(Fault::TooShort {
+        return Err(Fault::TooShort {
             required: length::UDP,
             have: end,
             layer: Layer::Of(Kind::Udp),
@@ -32,14 +32,14 @@ pub fn read_udp(w: &[u8]) -> TransportRead
         });
     }
     if have < end {
-        return TransportRead::Refused(Fault::TooShort {
+        return Err(Fault::TooShort {
             required: end,
             have,
             layer: Layer::UdpPayload,
             bound: Bound::Room,
         });
     }
-    TransportRead::Whole(TransportHeader {
+    Ok(TransportHeader {
         len: length::UDP,
         end,
     })
