@@ -1,23 +1,16 @@
 -- A reader's answer at a place: what a whole header says, or the row of its refusal there.
-use Rattle.std.specs.Prelude.{ℕ, ◌≡◌, refl, eqb}
-use Rattle.std.proofs.Common.{sym, ap, ◌∙◌, arith}
-use Rattle.rules.specs.declared.ether_type.EtherType.{EtherType}
+use Rattle.std.specs.Prelude.{ℕ, List, ◌≡◌, eqb, Result, Ok, Err}
 use Rattle.rules.specs.declared.kind.RoomSource.{RoomSource}
+use Rattle.rules.specs.declared.refusal.Refusal.{Refusal}
 use Rattle.rules.specs.declared.refusal.Row.{Row}
-use Rattle.rules.specs.Test.{pick, Failure, Verdict, whole, failed, placed}
+use Rattle.rules.specs.Test.{pick, Verdict, whole, failed, placed}
 use Rattle.rules.specs.Paper.{refusal_on_paper}
 use Rattle.headers.specs.declared.net.IpHeader.{IpHeader}
-use Rattle.headers.specs.declared.net.ExtHeader.{ExtHeader}
 use Rattle.headers.specs.declared.transport.TransportHeader.{TransportHeader}
-use Rattle.one_header.specs.declared.link.LinkAt.{LinkAt}
-use Rattle.one_header.specs.declared.link.LinkAt.TheVariants as L
-use Rattle.one_header.specs.declared.ip.IpAt.{IpAt}
-use Rattle.one_header.specs.declared.ip.IpAt.TheVariants as I
+use Rattle.headers.specs.Says.{udp_says, tcp_says}
+use Rattle.one_header.specs.declared.transport.TransportKind.{TransportKind}
+use Rattle.one_header.specs.declared.transport.TransportKind.TheVariants as T
 use Rattle.one_header.specs.declared.ip.IpFound.{IpFound}
-use Rattle.one_header.specs.declared.ext.ExtAt.{ExtAt}
-use Rattle.one_header.specs.declared.ext.ExtAt.TheVariants as E
-use Rattle.one_header.specs.declared.transport.TransportAt.{TransportAt}
-use Rattle.one_header.specs.declared.transport.TransportAt.TheVariants as T
 
 pub data Placed (A : Type 0) : Type 0 where
   here : A → Placed A
@@ -45,61 +38,19 @@ setting x have sets source =
       end = pick (eqb x.declared 0) have x.declared;
     }
 
+-- what a transport header's reader says
+abbrev pub transport_says : TransportKind → ℕ → List ℕ → Verdict TransportHeader
+transport_says T.Udp = udp_says
+transport_says T.Tcp = tcp_says
+
 -- ---- the answers on paper
 
-abbrev pub link_at_on_paper : LinkAt → Placed EtherType
-link_at_on_paper (L.Whole x) = here x
-link_at_on_paper (L.Refused r) = refused (refusal_on_paper r)
-
-abbrev pub ip_at_on_paper : IpAt → Placed IpFound
-ip_at_on_paper (I.Whole x) = here x
-ip_at_on_paper (I.Refused r) = refused (refusal_on_paper r)
-
-abbrev pub ext_at_on_paper : ExtAt → Placed ExtHeader
-ext_at_on_paper (E.Whole x) = here x
-ext_at_on_paper (E.Refused r) = refused (refusal_on_paper r)
-
-abbrev pub transport_at_on_paper : TransportAt → Placed TransportHeader
-transport_at_on_paper (T.Whole x) = here x
-transport_at_on_paper (T.Refused r) = refused (refusal_on_paper r)
+abbrev pub at_on_paper : {A : Type 0} → Result A Refusal → Placed A
+at_on_paper (Ok x) = here x
+at_on_paper (Err r) = refused (refusal_on_paper r)
 
 -- ---- back to the verdict
 
 pub here_whole : {A : Type 0} (v : Verdict A) (at : ℕ) (source : RoomSource) {x : A} → here x ≡ placing v at source → v ≡ whole x
 here_whole (whole y) at source e = cc
 here_whole (failed f) at source e = cc
-
-pub refused_failed : {A : Type 0} (v : Verdict A) (at : ℕ) (source : RoomSource) {r : Row} → refused r ≡ placing v at source
-    → (f : Failure) × (v ≡ failed f) × (r ≡ placed f at source)
-refused_failed (whole y) at source e = let z : ◌≡◌ {A = ℕ} 0 1 = cc in absurd (omega arith)
-refused_failed (failed f) at source e = (f, refl, cc)
-
-pub over_whole : {A B : Type 0} (f : A → B) (v : Verdict A) {y : B} → over f v ≡ whole y → (x : A) × (v ≡ whole x) × (y ≡ f x)
-over_whole f (whole x) e = (x, refl, cc)
-over_whole f (failed g) e = let z : ◌≡◌ {A = ℕ} 0 1 = cc in absurd (omega arith)
-
-pub over_failed : {A B : Type 0} (f : A → B) (v : Verdict A) {g : Failure} → over f v ≡ failed g → v ≡ failed g
-over_failed f (whole x) e = cc
-over_failed f (failed h) e = cc
-
--- ---- a reader's answer v, which is u on paper, made the answer at a place
-
-pub one_failure : {A : Type 0} {v : Verdict A} {f g : Failure} → v ≡ failed f → v ≡ failed g → f ≡ g
-one_failure p q = cc
-
-pub not_failed : {A : Type 0} {v : Verdict A} {x : A} {f : Failure} → v ≡ whole x → v ≡ failed f → ⊥
-not_failed p q = let z : ◌≡◌ {A = ℕ} 0 1 = cc in omega arith
-
-module _ {A : Type 0} {v u : Verdict A} (at : ℕ) (source : RoomSource) (e : v ≡ u) where
-  pub whole_at : {x : A} → v ≡ whole x → here x ≡ placing u at source
-  whole_at z = ap (λ (y : Verdict A). placing y at source) (sym z ∙ e)
-
-  pub refused_at : {f : Failure} {r : Row} → v ≡ failed f → r ≡ placed f at source → refused r ≡ placing u at source
-  refused_at z q = ap refused q ∙ ap (λ (y : Verdict A). placing y at source) (sym z ∙ e)
-
-  module _ {B : Type 0} (f : A → B) where
-    pub whole_over : {x : A} → v ≡ whole x → here (f x) ≡ placing (over f u) at source
-    whole_over z = ap (λ (y : Verdict A). placing (over f y) at source) (sym z ∙ e)
-
-    pub refused_over : {g : Failure} {r : Row} → v ≡ failed g → r ≡ placed g at source → refused r ≡ placing (over f u) at source
-    refused_over z q = ap refused q ∙ ap (λ (y : Verdict A). placing (over f y) at source) (sym z ∙ e)

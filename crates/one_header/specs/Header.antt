@@ -1,5 +1,5 @@
 -- A header of any kind at the begin of some bytes that reach to its room's end: what the code answers, and what the rules give.
-use Rattle.std.specs.Prelude.{ℕ, ◌+◌, ◌-◌, ◌≡◌, List, Bool, true, false, eqb}
+use Rattle.std.specs.Prelude.{ℕ, ◌+◌, ◌-◌, ◌≡◌, List, Bool, true, false, eqb, Result, Ok, Err}
 use Rattle.std.proofs.Math.Path.{refl, ap}
 use Rattle.std.proofs.Common.{sym, ◌∙◌}
 use native.Mathlib.Omega.{arith}
@@ -10,6 +10,7 @@ use Rattle.rules.specs.declared.kind.Kind.TheVariants.{Ethernet2, Vlan, Ipv4, Ip
 use Rattle.rules.specs.declared.kind.RoomSource.TheVariants as S
 use Rattle.rules.specs.declared.place.Number.TheVariants.{Link, Ip}
 use Rattle.rules.specs.declared.place.Room.{Room}
+use Rattle.rules.specs.declared.refusal.Refusal.{Refusal}
 use Rattle.rules.specs.declared.refusal.Row.{Row}
 use Rattle.rules.specs.declared.stop.Stop.TheVariants.{TransportRead}
 use Rattle.rules.specs.declared.turn.Turn.{Turn}
@@ -27,8 +28,6 @@ use Rattle.headers.specs.declared.transport.TransportHeader.{TransportHeader}
 use Rattle.headers.specs.Says.{link_says, ip_says, ext_says, udp_says, tcp_says}
 use Rattle.one_header.specs.declared.ip.IpFound.{IpFound}
 use Rattle.one_header.specs.declared.header.HeaderFound.{HeaderFound}
-use Rattle.one_header.specs.declared.header.HeaderRead.{HeaderRead}
-use Rattle.one_header.specs.declared.header.HeaderRead.TheVariants as D
 use Rattle.one_header.specs.Turns.{first_turn, later_turn}
 use Rattle.one_header.specs.At.{Placed, here, refused, placing, over, setting}
 
@@ -41,9 +40,9 @@ abbrev pub found_on_paper : HeaderFound → ℕ → Room → Found
 found_on_paper x at p =
     record { room = left_by x at p; len = x.len; follow = follow x.turn (left_by x at p) (at + x.len) x.number (at + x.to) }
 
-abbrev pub header_read_on_paper : HeaderRead → ℕ → Room → PlaceRead
-header_read_on_paper (D.Whole x) at p = reads (found_on_paper x at p)
-header_read_on_paper (D.Refused r) at p = refuses (refusal_on_paper r)
+abbrev pub header_read_on_paper : Result HeaderFound Refusal → ℕ → Room → PlaceRead
+header_read_on_paper (Ok x) at p = reads (found_on_paper x at p)
+header_read_on_paper (Err r) at p = refuses (refusal_on_paper r)
 
 -- ---- what the rules give for a header of kind k at `at`, whose bytes up to its room's end are w
 

@@ -3,6 +3,8 @@ use Rattle.std.specs.Prelude.{ℕ, ◌≡◌, refl, Bool, true, false, eqb}
 use Rattle.std.proofs.Common.{eq-eqb, ne_eqb}
 use Rattle.rules.specs.declared.kind.Kind.{Kind}
 use Rattle.rules.specs.declared.kind.Kind.TheVariants as K
+use Rattle.rules.specs.declared.kind.RoomSource.{RoomSource}
+use Rattle.rules.specs.declared.kind.RoomSource.TheVariants as R
 use Rattle.rules.specs.declared.place.Room.{Room}
 use Rattle.rules.specs.declared.stop.Stop.TheVariants as S
 use Rattle.rules.specs.declared.turn.ChainPlace.{ChainPlace}
@@ -14,6 +16,8 @@ use Rattle.rules.specs.Test.{pick}
 use Rattle.rules.specs.Rules.{transport, chain4, hop_by_hop, chain6}
 use Rattle.one_header.specs.declared.ip.IpKind.{IpKind}
 use Rattle.one_header.specs.declared.ip.IpKind.TheVariants as I
+use Rattle.one_header.specs.declared.link.LinkKind.{LinkKind}
+use Rattle.one_header.specs.declared.link.LinkKind.TheVariants as N
 use Rattle.one_header.specs.declared.link.LinkEnd.{LinkEnd}
 use Rattle.one_header.specs.declared.link.LinkEnd.TheVariants as E
 use Rattle.one_header.specs.declared.link.LinkTurn.{LinkTurn}
@@ -22,6 +26,8 @@ use Rattle.one_header.specs.declared.ext.ExtKind.{ExtKind}
 use Rattle.one_header.specs.declared.ext.ExtKind.TheVariants as X
 use Rattle.one_header.specs.declared.ext.ExtTurn.{ExtTurn}
 use Rattle.one_header.specs.declared.ext.ExtTurn.TheVariants as T
+use Rattle.one_header.specs.declared.transport.TransportKind.{TransportKind}
+use Rattle.one_header.specs.declared.transport.TransportKind.TheVariants as Y
 use Rattle.one_header.specs.declared.transport.TransportTurn.{TransportTurn}
 use Rattle.one_header.specs.declared.transport.TransportTurn.TheVariants as U
 
@@ -30,6 +36,19 @@ use Rattle.one_header.specs.declared.transport.TransportTurn.TheVariants as U
 abbrev pub ip_kind_of : IpKind → Kind
 ip_kind_of I.Ipv4 = K.Ipv4
 ip_kind_of I.Ipv6 = K.Ipv6
+
+-- the room that an IP header declares is its own
+abbrev pub sets_of : IpKind → RoomSource
+sets_of I.Ipv4 = R.Ipv4
+sets_of I.Ipv6 = R.Ipv6
+
+abbrev pub link_kind_of : LinkKind → Kind
+link_kind_of N.Ethernet2 = K.Ethernet2
+link_kind_of N.Vlan = K.Vlan
+
+abbrev pub transport_kind_of : TransportKind → Kind
+transport_kind_of Y.Udp = K.Udp
+transport_kind_of Y.Tcp = K.Tcp
 
 abbrev pub ext_kind_of : ExtKind → Kind
 ext_kind_of X.HopByHop = K.HopByHop
@@ -47,8 +66,7 @@ link_turn_on_paper L.Tag = Opens K.Vlan
 link_turn_on_paper (L.Ends e) = link_end_on_paper e
 
 abbrev pub transport_turn_on_paper : TransportTurn → Turn
-transport_turn_on_paper U.Udp = Opens K.Udp
-transport_turn_on_paper U.Tcp = Opens K.Tcp
+transport_turn_on_paper (U.Opens k) = Opens (transport_kind_of k)
 transport_turn_on_paper (U.Stops stop) = Stops stop
 
 -- ---- numbers of a chain

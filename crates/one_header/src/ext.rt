@@ -1,12 +1,11 @@
 // Extension headers at a place, and where a number of an IPv6 chain leads.
 ghost use Rattle.std.specs.Prelude.{◌≡◌, ℕ};
-ghost use Rattle.headers.specs.Says.{ext_on_paper, ext_says};
-ghost use Rattle.one_header.specs.At.{ext_at_on_paper, placing};
+ghost use Rattle.headers.specs.Says.{read_on_paper, ext_says};
+ghost use Rattle.one_header.specs.At.{at_on_paper, placing};
 ghost use Rattle.one_header.specs.Turns.{ext_kind_of, ext_turn};
 
-use crate::refuse::refuse_ext;
-use headers::{ExtHeader, ExtRead};
-use rules::{ChainPlace, IpNumber, Kind, Refusal, RoomSource, ip_number};
+use headers::ExtHeader;
+use rules::{ChainPlace, Fault, IpNumber, Kind, Refusal, RoomSource, ip_number};
 
 #[derive(Clone, Copy)]
 pub enum ExtKind {
@@ -17,11 +16,11 @@ pub enum ExtKind {
     Auth,
 }
 
-impl ExtKind {
-    pub fn kind(self) -> Kind
-        ensures { result ≡ ext_kind_of self }
-    {
-        match self {
+impl From<ExtKind> for Kind {
+    ghost from_gives = { λ kind result. result ≡ ext_kind_of kind };
+
+    fn from(kind: ExtKind) -> Kind {
+        match kind {
             ExtKind::HopByHop => Kind::HopByHop,
             ExtKind::Routing => Kind::Routing,
             ExtKind::Destination => Kind::Destination,
@@ -31,14 +30,8 @@ impl ExtKind {
     }
 }
 
-#[derive(Clone, Copy)]
-pub enum ExtAt {
-    Whole(ExtHeader),
-    Refused(Refusal),
-}
-
-fn read_ext(w: &[u8], kind: ExtKind) -> ExtRead
-    ensures { (v : ℕ) → ext_on_paper result ≡ ext_says (ext_kind_of kind) v w.now }
+fn read_ext(w: &[u8], kind: ExtKind) -> Result<ExtHeader, Fault>
+    ensures { (v : ℕ) → read_on_paper result ≡ ext_says (ext_kind_of kind) v w.now }
 {
     match kind {
         ExtKind::HopByHop => headers::read_raw_ext(w, Kind::HopByHop),
@@ -49,15 +42,11 @@ fn read_ext(w: &[u8], kind: ExtKind) -> ExtRead
     }
 }
 
-pub fn ext_at(w: &[u8], kind: ExtKind, at: usize, source: RoomSource) -> ExtAt
-    ensures answer { (v : ℕ) → ext_at_on_paper result ≡ placing (ext_says (ext_kind_of kind) v w.now) at source }
+pub fn ext_at(w: &[u8], kind: ExtKind, at: usize, source: RoomSource) -> Result<ExtHeader, Refusal>
+    ensures answer { (v : ℕ) → at_on_paper result ≡ placing (ext_says (ext_kind_of kind) v w.now) at source }
     ensures unwritten { w.exit.now ≡ w.entry.now }
 {
-    let answer = read_ext(w, kind);
-    let ExtRead::Whole(x) = answer else {
-        return ExtAt::Refused(refuse_ext(answer, at, source));
-    };
-    ExtAt::Whole(x)
+    read_ext(w, kind).map_err(|fault| fault.at(at, source))
 }
 
 // A number of a chain: an extension, a hop-by-hop header that is not at the start, or the chain's end.

@@ -1,7 +1,7 @@
 // A header of any kind at a place, for a walk that goes from header to header.
 ghost use Rattle.std.specs.Prelude.{◌≡◌, ℕ, length};
 ghost use Rattle.rules.specs.declared.place.Room.{Room as R};
-ghost use Rattle.one_header.specs.At.{link_at_on_paper, ip_at_on_paper, ext_at_on_paper, transport_at_on_paper};
+ghost use Rattle.one_header.specs.At.{at_on_paper};
 ghost use Rattle.rules.specs.Rules.{transport};
 ghost use Rattle.one_header.specs.Turns.{first_turn, later_turn, turn_by};
 ghost use Rattle.one_header.specs.Header.{
@@ -13,12 +13,14 @@ ghost use Rattle.one_header.specs.Header.{
   read_part,
 };
 
-use crate::ext::{ExtAt, ExtKind, ExtTurn, ext_at, ext_turn};
-use crate::ip::{IpAt, ipv4_at, ipv6_at, opens_auth};
-use crate::link::{LinkAt, ethernet2_at, link_turn, vlan_at};
-use crate::transport::{TransportAt, stop_behind, tcp_at, transport_turn, udp_at};
+use crate::ext::{ExtKind, ExtTurn, ext_at, ext_turn};
+use crate::ip::{IpFound, IpKind, ip_at, opens_auth};
+use crate::link::{LinkKind, link_at, link_turn};
+use crate::transport::{TransportKind, stop_behind, transport_at, transport_turn};
+use headers::{ExtHeader, TransportHeader};
 use rules::{
-    ChainPlace, IpNumber, Kind, Number, Refusal, Room, RoomSource, Turn, ip_number, length,
+    ChainPlace, EtherType, IpNumber, Kind, Number, Refusal, Room, RoomSource, Turn, ip_number,
+    length,
 };
 
 // What a whole header says: its length, the room that it leaves, the number that it names, where that leads, and where the payload
@@ -35,32 +37,27 @@ pub struct HeaderFound {
     pub mark: bool,
 }
 
-#[derive(Clone, Copy)]
-pub enum HeaderRead {
-    Whole(HeaderFound),
-    Refused(Refusal),
-}
-
-fn link_header(read: LinkAt, len: usize, have: usize, room: Room) -> HeaderRead
-    ensures { (at : ℕ) → header_read_on_paper result at room ≡ link_header (link_at_on_paper read) len have at room }
+fn link_header(
+    read: Result<EtherType, Refusal>,
+    len: usize,
+    have: usize,
+    room: Room,
+) -> Result<HeaderFound, Refusal>
+    ensures { (at : ℕ) → header_read_on_paper result at room ≡ link_header (at_on_paper read) len have at room }
 {
-    match read {
-        LinkAt::Refused(refusal) => HeaderRead::Refused(refusal),
-        LinkAt::Whole(number) => {
-            let source = room.source;
-            let turn = link_turn(number, room.tags);
-            HeaderRead::Whole(HeaderFound {
-                len,
-                end: have,
-                to: have,
-                version: room.version,
-                number: Number::Link(number),
-                turn: turn.turn(),
-                source,
-                mark: room.mark,
-            })
-        }
-    }
+    let number = read?;
+    let source = room.source;
+    let turn = link_turn(number, room.tags);
+    Ok(HeaderFound {
+        len,
+        end: have,
+        to: have,
+        version: room.version,
+        number: Number::Link(number),
+        turn: Turn::from(turn),
+        source,
+        mark: room.mark,
+    })
 }
 
 // What the number of an IP header of a version opens.
@@ -90,100 +87,105 @@ fn net_turn(turn: ExtTurn, number: IpNumber, mark: bool) -> Turn
     ensures { (p : R) → p.mark ≡ mark → result ≡ turn_by turn (transport p number.0) }
 {
     match turn {
-        ExtTurn::Opens(kind) => Turn::Opens(kind.kind()),
+        ExtTurn::Opens(kind) => Turn::Opens(Kind::from(kind)),
         ExtTurn::LateHopByHop => Turn::LateHopByHop,
-        ExtTurn::Ends => {
-            let last = transport_turn(number, mark);
-            last.turn()
-        }
+        ExtTurn::Ends => { Turn::from(transport_turn(number, mark)) }
     }
 }
 
-fn ip_header(read: IpAt, version: usize) -> HeaderRead
-    ensures { (at : ℕ) (p : R) → header_read_on_paper result at p ≡ ip_header (ip_at_on_paper read) version at p }
+fn ip_header(read: Result<IpFound, Refusal>, version: usize) -> Result<HeaderFound, Refusal>
+    ensures { (at : ℕ) (p : R) → header_read_on_paper result at p ≡ ip_header (at_on_paper read) version at p }
 {
-    match read {
-        IpAt::Refused(refusal) => HeaderRead::Refused(refusal),
-        IpAt::Whole(x) => {
-            let source = x.source;
-            let number = x.names;
-            let fragment = x.fragment;
-            let mark = fragment.marks(false);
-            let first = first_turn(number, version);
-            HeaderRead::Whole(HeaderFound {
-                len: x.len,
-                end: x.end,
-                to: x.end,
-                version,
-                number: Number::Ip(number),
-                turn: net_turn(first, number, mark),
-                source,
-                mark,
-            })
-        }
-    }
+    let x = read?;
+    let source = x.source;
+    let number = x.names;
+    let fragment = x.fragment;
+    let mark = fragment.marks(false);
+    let first = first_turn(number, version);
+    Ok(HeaderFound {
+        len: x.len,
+        end: x.end,
+        to: x.end,
+        version,
+        number: Number::Ip(number),
+        turn: net_turn(first, number, mark),
+        source,
+        mark,
+    })
 }
 
 // AUTH belongs to the chain of its packet's version; the others are IPv6's.
-fn ext_header(read: ExtAt, chain: usize, have: usize, room: Room) -> HeaderRead
-    ensures { (at : ℕ) → header_read_on_paper result at room ≡ ext_header (ext_at_on_paper read) chain have at room }
+fn ext_header(
+    read: Result<ExtHeader, Refusal>,
+    chain: usize,
+    have: usize,
+    room: Room,
+) -> Result<HeaderFound, Refusal>
+    ensures { (at : ℕ) → header_read_on_paper result at room ≡ ext_header (at_on_paper read) chain have at room }
 {
-    match read {
-        ExtAt::Refused(refusal) => HeaderRead::Refused(refusal),
-        ExtAt::Whole(x) => {
-            let source = room.source;
-            let number = x.names;
-            let fragment = x.fragment;
-            let mark = fragment.marks(room.mark);
-            let later = later_turn(number, chain);
-            HeaderRead::Whole(HeaderFound {
-                len: x.len,
-                end: have,
-                to: have,
-                version: room.version,
-                number: Number::Ip(number),
-                turn: net_turn(later, number, mark),
-                source,
-                mark,
-            })
-        }
-    }
+    let x = read?;
+    let source = room.source;
+    let number = x.names;
+    let fragment = x.fragment;
+    let mark = fragment.marks(room.mark);
+    let later = later_turn(number, chain);
+    Ok(HeaderFound {
+        len: x.len,
+        end: have,
+        to: have,
+        version: room.version,
+        number: Number::Ip(number),
+        turn: net_turn(later, number, mark),
+        source,
+        mark,
+    })
 }
 
-fn transport_header(read: TransportAt, number: u8, have: usize, room: Room) -> HeaderRead
-    ensures { (at : ℕ) → header_read_on_paper result at room ≡ transport_header (transport_at_on_paper read) number have at room }
+fn transport_header(
+    read: Result<TransportHeader, Refusal>,
+    number: u8,
+    have: usize,
+    room: Room,
+) -> Result<HeaderFound, Refusal>
+    ensures { (at : ℕ) → header_read_on_paper result at room ≡ transport_header (at_on_paper read) number have at room }
 {
-    match read {
-        TransportAt::Refused(refusal) => HeaderRead::Refused(refusal),
-        TransportAt::Whole(x) => {
-            let source = room.source;
-            HeaderRead::Whole(HeaderFound {
-                len: x.len,
-                end: have,
-                to: x.end,
-                version: room.version,
-                number: Number::Ip(IpNumber(number)),
-                turn: Turn::Stops(stop_behind()),
-                source,
-                mark: room.mark,
-            })
-        }
-    }
+    let x = read?;
+    let source = room.source;
+    Ok(HeaderFound {
+        len: x.len,
+        end: have,
+        to: x.end,
+        version: room.version,
+        number: Number::Ip(IpNumber(number)),
+        turn: Turn::Stops(stop_behind()),
+        source,
+        mark: room.mark,
+    })
 }
 
 // The header of a kind at the begin of the bytes w, which stand at `at` and reach to their room's end. Where that room ends, `w` says,
 // and not `room`.
-pub fn header_at(w: &[u8], kind: Kind, at: usize, room: Room) -> HeaderRead
+pub fn header_at(w: &[u8], kind: Kind, at: usize, room: Room) -> Result<HeaderFound, Refusal>
     ensures answer { header_read_on_paper result at room ≡ read_part w.now kind at room }
     ensures unwritten { w.exit.now ≡ w.entry.now }
 {
     let source = room.source;
     let have = w.len();
     match kind {
-        Kind::Ethernet2 => link_header(ethernet2_at(w, at, source), length::ETHERNET2, have, room),
-        Kind::Vlan => link_header(vlan_at(w, at, source), length::VLAN, have, room),
-        Kind::Ipv4 => ip_header(ipv4_at(w, at, source), 4),
-        Kind::Ipv6 => ip_header(ipv6_at(w, at, source), 6),
+        Kind::Ethernet2 => link_header(
+            link_at(w, LinkKind::Ethernet2, at, source),
+            length::ETHERNET2,
+            have,
+            room,
+        ),
+        Kind::Vlan => link_header(
+            link_at(w, LinkKind::Vlan, at, source),
+            length::VLAN,
+            have,
+            room,
+        ),
+        Kind::Ipv4 => ip_header(ip_at(w, IpKind::Ipv4, at, source), 4),
+        Kind::Ipv6 => ip_header(ip_at(w, IpKind::Ipv6, at, source), 6),
         Kind::HopByHop => ext_header(ext_at(w, ExtKind::HopByHop, at, source), 6, have, room),
         Kind::Routing => ext_header(ext_at(w, ExtKind::Routing, at, source), 6, have, room),
         Kind::Destination => ext_header(ext_at(w, ExtKind::Destination, at, source), 6, have, room),
@@ -194,7 +196,17 @@ pub fn header_at(w: &[u8], kind: Kind, at: usize, room: Room) -> HeaderRead
             have,
             room,
         ),
-        Kind::Udp => transport_header(udp_at(w, at, source), ip_number::UDP, have, room),
-        Kind::Tcp => transport_header(tcp_at(w, at, source), ip_number::TCP, have, room),
+        Kind::Udp => transport_header(
+            transport_at(w, TransportKind::Udp, at, source),
+            ip_number::UDP,
+            have,
+            room,
+        ),
+        Kind::Tcp => transport_header(
+            transport_at(w, TransportKind::Tcp, at, source),
+            ip_number::TCP,
+            have,
+            room,
+        ),
     }
 }

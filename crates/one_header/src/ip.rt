@@ -1,15 +1,12 @@
 // IP headers at a place: the room that each sets.
 ghost use Rattle.std.specs.Prelude.{◌≡◌, ℕ, length, eqb};
-ghost use Rattle.rules.specs.declared.kind.Kind.TheVariants as K;
-ghost use Rattle.rules.specs.declared.kind.RoomSource.TheVariants as S;
 ghost use Rattle.rules.specs.Numbers.{auth_number};
-ghost use Rattle.headers.specs.Says.{ip_says};
-ghost use Rattle.one_header.specs.At.{ip_at_on_paper, placing, over, setting};
-ghost use Rattle.one_header.specs.Turns.{ip_kind_of};
+ghost use Rattle.headers.specs.Says.{read_on_paper, ip_says};
+ghost use Rattle.one_header.specs.At.{at_on_paper, placing, over, setting};
+ghost use Rattle.one_header.specs.Turns.{ip_kind_of, sets_of};
 
-use crate::refuse::refuse_ip;
-use headers::{IpHeader, IpRead};
-use rules::{Fragment, IpNumber, Kind, Refusal, RoomSource, ip_number};
+use headers::IpHeader;
+use rules::{Fault, Fragment, IpNumber, Kind, Refusal, RoomSource, ip_number};
 
 #[derive(Clone, Copy)]
 pub enum IpKind {
@@ -17,13 +14,25 @@ pub enum IpKind {
     Ipv6,
 }
 
-impl IpKind {
-    pub fn kind(self) -> Kind
-        ensures { result ≡ ip_kind_of self }
-    {
-        match self {
+impl From<IpKind> for Kind {
+    ghost from_gives = { λ kind result. result ≡ ip_kind_of kind };
+
+    fn from(kind: IpKind) -> Kind {
+        match kind {
             IpKind::Ipv4 => Kind::Ipv4,
             IpKind::Ipv6 => Kind::Ipv6,
+        }
+    }
+}
+
+// The room that a header of this kind declares is set by it.
+impl From<IpKind> for RoomSource {
+    ghost from_gives = { λ kind result. result ≡ sets_of kind };
+
+    fn from(kind: IpKind) -> RoomSource {
+        match kind {
+            IpKind::Ipv4 => RoomSource::Ipv4,
+            IpKind::Ipv6 => RoomSource::Ipv6,
         }
     }
 }
@@ -37,12 +46,6 @@ pub struct IpFound {
     pub source: RoomSource,
     pub names: IpNumber,
     pub fragment: Fragment,
-}
-
-#[derive(Clone, Copy)]
-pub enum IpAt {
-    Whole(IpFound),
-    Refused(Refusal),
 }
 
 // The room that a header sets, in a room that ends `have` bytes from it: a header that declares no length keeps that room.
@@ -70,26 +73,21 @@ fn set_room(x: IpHeader, have: usize, sets: RoomSource, source: RoomSource) -> I
     }
 }
 
-pub fn ipv4_at(w: &[u8], at: usize, source: RoomSource) -> IpAt
-    ensures answer { (v : ℕ) → ip_at_on_paper result ≡ placing (over (λ x. setting x (length w.now) S.Ipv4 source) (ip_says K.Ipv4 v w.now)) at source }
-    ensures unwritten { w.exit.now ≡ w.entry.now }
+fn read_ip(w: &[u8], kind: IpKind) -> Result<IpHeader, Fault>
+    ensures { (v : ℕ) → read_on_paper result ≡ ip_says (ip_kind_of kind) v w.now }
 {
-    let answer = headers::read_ipv4(w);
-    let IpRead::Whole(x) = answer else {
-        return IpAt::Refused(refuse_ip(answer, at, source));
-    };
-    IpAt::Whole(set_room(x, w.len(), RoomSource::Ipv4, source))
+    match kind {
+        IpKind::Ipv4 => headers::read_ipv4(w),
+        IpKind::Ipv6 => headers::read_ipv6(w),
+    }
 }
 
-pub fn ipv6_at(w: &[u8], at: usize, source: RoomSource) -> IpAt
-    ensures answer { (v : ℕ) → ip_at_on_paper result ≡ placing (over (λ x. setting x (length w.now) S.Ipv6 source) (ip_says K.Ipv6 v w.now)) at source }
+pub fn ip_at(w: &[u8], kind: IpKind, at: usize, source: RoomSource) -> Result<IpFound, Refusal>
+    ensures answer { (v : ℕ) → at_on_paper result ≡ placing (over (λ x. setting x (length w.now) (sets_of kind) source) (ip_says (ip_kind_of kind) v w.now)) at source }
     ensures unwritten { w.exit.now ≡ w.entry.now }
 {
-    let answer = headers::read_ipv6(w);
-    let IpRead::Whole(x) = answer else {
-        return IpAt::Refused(refuse_ip(answer, at, source));
-    };
-    IpAt::Whole(set_room(x, w.len(), RoomSource::Ipv6, source))
+    let x = read_ip(w, kind).map_err(|fault| fault.at(at, source))?;
+    Ok(set_room(x, w.len(), RoomSource::from(kind), source))
 }
 
 // Whether an IPv4 header's number opens its one AUTH header.

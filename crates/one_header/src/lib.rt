@@ -7,11 +7,10 @@ mod ext;
 mod header;
 mod ip;
 mod link;
-mod refuse;
 mod transport;
 
-pub use ext::{ExtAt, ExtKind, ExtTurn, ext_at, ext_turn};
-pub use header::{HeaderFound, HeaderRead, header_at};
-pub use ip::{IpAt, IpFound, IpKind, ipv4_at, ipv6_at, opens_auth};
-pub use link::{LinkAt, LinkEnd, LinkTurn, ethernet2_at, link_turn, vlan_at};
-pub use transport::{TransportAt, TransportTurn, stop_behind, tcp_at, transport_turn, udp_at};
+pub use ext::{ExtKind, ExtTurn, ext_at, ext_turn};
+pub use header::{HeaderFound, header_at};
+pub use ip::{IpFound, IpKind, ip_at, opens_auth};
+pub use link::{LinkEnd, LinkKind, LinkTurn, link_at, link_turn};
+pub use transport::{TransportKind, TransportTurn, stop_behind, transport_at, transport_turn};

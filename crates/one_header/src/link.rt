@@ -1,45 +1,41 @@
 // Link headers at a place, and where an EtherType leads.
 ghost use Rattle.std.specs.Prelude.{◌≡◌, ℕ};
-ghost use Rattle.rules.specs.declared.kind.Kind.TheVariants as K;
 ghost use Rattle.rules.specs.declared.place.Room.{Room as R};
 ghost use Rattle.rules.specs.Rules.{is_tag, link};
-ghost use Rattle.headers.specs.Says.{link_says};
-ghost use Rattle.one_header.specs.At.{link_at_on_paper, placing};
-ghost use Rattle.one_header.specs.Turns.{link_turn_on_paper};
+ghost use Rattle.headers.specs.Says.{read_on_paper, link_says};
+ghost use Rattle.one_header.specs.At.{at_on_paper, placing};
+ghost use Rattle.one_header.specs.Turns.{link_kind_of, link_turn_on_paper};
 
 use crate::ip::IpKind;
-use crate::refuse::refuse_link;
-use headers::LinkRead;
 use rules::ether_type::TAG_LIMIT;
-use rules::{EtherType, Kind, Refusal, RoomSource, Stop, Turn, ether_type};
+use rules::{EtherType, Fault, Kind, Refusal, RoomSource, Stop, Turn, ether_type};
+
+#[derive(Clone, Copy)]
+pub enum LinkKind {
+    Ethernet2,
+    Vlan,
+}
+
+fn read_link(w: &[u8], kind: LinkKind) -> Result<EtherType, Fault>
+    ensures { (v : ℕ) → read_on_paper result ≡ link_says (link_kind_of kind) v w.now }
+{
+    match kind {
+        LinkKind::Ethernet2 => headers::read_ethernet2(w),
+        LinkKind::Vlan => headers::read_vlan(w),
+    }
+}
 
 // A link header tells the EtherType that it names.
-#[derive(Clone, Copy)]
-pub enum LinkAt {
-    Whole(EtherType),
-    Refused(Refusal),
-}
-
-pub fn ethernet2_at(w: &[u8], at: usize, source: RoomSource) -> LinkAt
-    ensures answer { (v : ℕ) → link_at_on_paper result ≡ placing (link_says K.Ethernet2 v w.now) at source }
+pub fn link_at(
+    w: &[u8],
+    kind: LinkKind,
+    at: usize,
+    source: RoomSource,
+) -> Result<EtherType, Refusal>
+    ensures answer { (v : ℕ) → at_on_paper result ≡ placing (link_says (link_kind_of kind) v w.now) at source }
     ensures unwritten { w.exit.now ≡ w.entry.now }
 {
-    let answer = headers::read_ethernet2(w);
-    let LinkRead::Whole(number) = answer else {
-        return LinkAt::Refused(refuse_link(answer, at, source));
-    };
-    LinkAt::Whole(number)
-}
-
-pub fn vlan_at(w: &[u8], at: usize, source: RoomSource) -> LinkAt
-    ensures answer { (v : ℕ) → link_at_on_paper result ≡ placing (link_says K.Vlan v w.now) at source }
-    ensures unwritten { w.exit.now ≡ w.entry.now }
-{
-    let answer = headers::read_vlan(w);
-    let LinkRead::Whole(number) = answer else {
-        return LinkAt::Refused(refuse_link(answer, at, source));
-    };
-    LinkAt::Whole(number)
+    read_link(w, kind).map_err(|fault| fault.at(at, source))
 }
 
 // What ends a tag walk: an IP header, or a stop.
@@ -55,16 +51,14 @@ pub enum LinkTurn {
     Ends(LinkEnd),
 }
 
-impl LinkTurn {
-    pub fn turn(self) -> Turn
-        ensures { result ≡ link_turn_on_paper self }
-    {
-        match self {
+impl From<LinkTurn> for Turn {
+    ghost from_gives = { λ turn result. result ≡ link_turn_on_paper turn };
+
+    fn from(turn: LinkTurn) -> Turn {
+        match turn {
             LinkTurn::Tag => Turn::Opens(Kind::Vlan),
-            LinkTurn::Ends(end) => match end {
-                LinkEnd::Opens(kind) => Turn::Opens(kind.kind()),
-                LinkEnd::Stops(stop) => Turn::Stops(stop),
-            },
+            LinkTurn::Ends(LinkEnd::Opens(kind)) => Turn::Opens(Kind::from(kind)),
+            LinkTurn::Ends(LinkEnd::Stops(stop)) => Turn::Stops(stop),
         }
     }
 }

@@ -3,40 +3,49 @@ ghost use Rattle.std.specs.Prelude.{◌≡◌, ℕ};
 ghost use Rattle.rules.specs.declared.place.Room.{Room as R};
 ghost use Rattle.rules.specs.declared.stop.Stop.TheVariants as S;
 ghost use Rattle.rules.specs.Rules.{transport};
-ghost use Rattle.headers.specs.Says.{udp_says, tcp_says};
-ghost use Rattle.one_header.specs.At.{transport_at_on_paper, placing};
-ghost use Rattle.one_header.specs.Turns.{transport_turn_on_paper};
+ghost use Rattle.headers.specs.Says.{read_on_paper};
+ghost use Rattle.one_header.specs.At.{at_on_paper, placing, transport_says};
+ghost use Rattle.one_header.specs.Turns.{transport_kind_of, transport_turn_on_paper};
 
-use crate::refuse::refuse_transport;
-use headers::{TransportHeader, TransportRead};
-use rules::{IpNumber, Kind, Refusal, RoomSource, Stop, Turn, ip_number};
+use headers::TransportHeader;
+use rules::{Fault, IpNumber, Kind, Refusal, RoomSource, Stop, Turn, ip_number};
 
 #[derive(Clone, Copy)]
-pub enum TransportAt {
-    Whole(TransportHeader),
-    Refused(Refusal),
+pub enum TransportKind {
+    Udp,
+    Tcp,
 }
 
-pub fn udp_at(w: &[u8], at: usize, source: RoomSource) -> TransportAt
-    ensures answer { (v : ℕ) → transport_at_on_paper result ≡ placing (udp_says v w.now) at source }
-    ensures unwritten { w.exit.now ≡ w.entry.now }
-{
-    let answer = headers::read_udp(w);
-    let TransportRead::Whole(x) = answer else {
-        return TransportAt::Refused(refuse_transport(answer, at, source));
-    };
-    TransportAt::Whole(x)
+impl From<TransportKind> for Kind {
+    ghost from_gives = { λ kind result. result ≡ transport_kind_of kind };
+
+    fn from(kind: TransportKind) -> Kind {
+        match kind {
+            TransportKind::Udp => Kind::Udp,
+            TransportKind::Tcp => Kind::Tcp,
+        }
+    }
 }
 
-pub fn tcp_at(w: &[u8], at: usize, source: RoomSource) -> TransportAt
-    ensures answer { (v : ℕ) → transport_at_on_paper result ≡ placing (tcp_says v w.now) at source }
+fn read_transport(w: &[u8], kind: TransportKind) -> Result<TransportHeader, Fault>
+    ensures { (v : ℕ) → read_on_paper result ≡ transport_says kind v w.now }
+{
+    match kind {
+        TransportKind::Udp => headers::read_udp(w),
+        TransportKind::Tcp => headers::read_tcp(w),
+    }
+}
+
+pub fn transport_at(
+    w: &[u8],
+    kind: TransportKind,
+    at: usize,
+    source: RoomSource,
+) -> Result<TransportHeader, Refusal>
+    ensures answer { (v : ℕ) → at_on_paper result ≡ placing (transport_says kind v w.now) at source }
     ensures unwritten { w.exit.now ≡ w.entry.now }
 {
-    let answer = headers::read_tcp(w);
-    let TransportRead::Whole(x) = answer else {
-        return TransportAt::Refused(refuse_transport(answer, at, source));
-    };
-    TransportAt::Whole(x)
+    read_transport(w, kind).map_err(|fault| fault.at(at, source))
 }
 
 // Why a walk stops behind a transport header.
@@ -49,18 +58,16 @@ pub fn stop_behind() -> Stop
 
 #[derive(Clone, Copy)]
 pub enum TransportTurn {
-    Udp,
-    Tcp,
+    Opens(TransportKind),
     Stops(Stop),
 }
 
-impl TransportTurn {
-    pub fn turn(self) -> Turn
-        ensures { result ≡ transport_turn_on_paper self }
-    {
-        match self {
-            TransportTurn::Udp => Turn::Opens(Kind::Udp),
-            TransportTurn::Tcp => Turn::Opens(Kind::Tcp),
+impl From<TransportTurn> for Turn {
+    ghost from_gives = { λ turn result. result ≡ transport_turn_on_paper turn };
+
+    fn from(turn: TransportTurn) -> Turn {
+        match turn {
+            TransportTurn::Opens(kind) => Turn::Opens(Kind::from(kind)),
             TransportTurn::Stops(stop) => Turn::Stops(stop),
         }
     }
@@ -76,10 +83,10 @@ pub fn transport_turn(number: IpNumber, mark: bool) -> TransportTurn
         return TransportTurn::Stops(Stop::Fragment);
     }
     if n == ip_number::UDP {
-        return TransportTurn::Udp;
+        return TransportTurn::Opens(TransportKind::Udp);
     }
     if n == ip_number::TCP {
-        return TransportTurn::Tcp;
+        return TransportTurn::Opens(TransportKind::Tcp);
     }
     TransportTurn::Stops(Stop::IpNumberNotOpened)
 }

@@ -7,21 +7,21 @@ use Rattle.one_header.proofs.header.header_at.Goals as goal
 pub returns-in-Ethernet2-clause-answer : goal.returns-in-Ethernet2-clause-answer
 returns-in-Ethernet2-clause-answer c =
     let at = c.args.at in let p = c.args.room in rw c.in-Ethernet2.is (c.link_header.ensures c.args.at ∙ ethernet_reads _ at p
-    (c.ethernet2_at.ensures.answer p.version))
+    (c.link_at.ensures.answer p.version))
 
 pub returns-in-Vlan-clause-answer : goal.returns-in-Vlan-clause-answer
 returns-in-Vlan-clause-answer c =
-    let at = c.args.at in let p = c.args.room in rw c.in-Vlan.is (c.link_header-in-Vlan.ensures c.args.at ∙ vlan_reads _ at p (c.vlan_at.ensures.answer p.version))
+    let at = c.args.at in let p = c.args.room in rw c.in-Vlan.is (c.link_header-in-Vlan.ensures c.args.at ∙ vlan_reads _ at p (c.link_at-in-Vlan.ensures.answer p.version))
 
 pub returns-in-Ipv4-clause-answer : goal.returns-in-Ipv4-clause-answer
 returns-in-Ipv4-clause-answer c =
     let at = c.args.at in let p = c.args.room in rw c.in-Ipv4.is (c.ip_header.ensures c.args.at c.args.room
-    ∙ ipv4_reads _ at p (c.ipv4_at.ensures.answer p.version))
+    ∙ ipv4_reads _ at p (c.ip_at.ensures.answer p.version))
 
 pub returns-in-Ipv6-clause-answer : goal.returns-in-Ipv6-clause-answer
 returns-in-Ipv6-clause-answer c =
     let at = c.args.at in let p = c.args.room in rw c.in-Ipv6.is (c.ip_header-in-Ipv6.ensures c.args.at c.args.room
-    ∙ ipv6_reads _ at p (c.ipv6_at.ensures.answer p.version))
+    ∙ ipv6_reads _ at p (c.ip_at-in-Ipv6.ensures.answer p.version))
 
 pub returns-in-HopByHop-clause-answer : goal.returns-in-HopByHop-clause-answer
 returns-in-HopByHop-clause-answer c =
@@ -49,9 +49,9 @@ returns-in-Auth-clause-answer c =
 pub returns-in-Udp-clause-answer : goal.returns-in-Udp-clause-answer
 returns-in-Udp-clause-answer c =
     let at = c.args.at in let p = c.args.room in rw c.in-Udp.is (c.transport_header.ensures c.args.at ∙ udp_reads _ at p
-    (c.udp_at.ensures.answer p.version))
+    (c.transport_at.ensures.answer p.version))
 
 pub returns-in-Tcp-clause-answer : goal.returns-in-Tcp-clause-answer
 returns-in-Tcp-clause-answer c =
     let at = c.args.at in let p = c.args.room in rw c.in-Tcp.is (c.transport_header-in-Tcp.ensures c.args.at ∙ tcp_reads _ at p
-    (c.tcp_at.ensures.answer p.version))
+    (c.transport_at-in-Tcp.ensures.answer p.version))
