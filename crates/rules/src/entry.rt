@@ -1,5 +1,5 @@
 // How a frame begins, as the collector says.
-#[derive(Clone, Copy)]
+#[derive(Clone, Copy, Debug, PartialEq, Eq)]
 pub enum Entry {
     Ethernet,
     Ipv4,

@@ -1,5 +1,5 @@
 // Numbers of the link, as the crate names them.
-#[derive(Clone, Copy)]
+#[derive(Clone, Copy, Debug, PartialEq, Eq)]
 pub struct EtherType(pub u16);
 
 pub const VLAN_TAGGED_FRAME: u16 = 0x8100;

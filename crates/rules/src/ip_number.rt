@@ -1,5 +1,5 @@
 // Numbers of IP, as the crate names them.
-#[derive(Clone, Copy)]
+#[derive(Clone, Copy, Debug, PartialEq, Eq)]
 pub struct IpNumber(pub u8);
 
 pub const IPV6_HOP_BY_HOP: u8 = 0;

@@ -3,7 +3,7 @@ ghost use Rattle.std.specs.Prelude.{◌≡◌};
 ghost use Rattle.rules.specs.Named.{kind_number, layer_number, source_number};
 ghost use Rattle.rules.specs.Test.{source_of};
 
-#[derive(Clone, Copy)]
+#[derive(Clone, Copy, Debug, PartialEq, Eq)]
 pub enum Kind {
     Ethernet2,
     Vlan,
@@ -39,7 +39,7 @@ impl Kind {
 }
 
 // A header, or one of the length tests that document 01 gives a name of its own.
-#[derive(Clone, Copy)]
+#[derive(Clone, Copy, Debug, PartialEq, Eq)]
 pub enum Layer {
     Of(Kind),
     Ipv4Packet,
@@ -61,32 +61,32 @@ impl Layer {
 }
 
 // What set a room. UDP's length never does.
-#[derive(Clone, Copy)]
+#[derive(Clone, Copy, Debug, PartialEq, Eq)]
 pub enum RoomSource {
     Slice,
     Ipv4,
     Ipv6,
 }
 
-impl RoomSource {
-    pub fn source(self) -> Source
-        ensures { result ≡ source_of self }
-    {
-        match self {
-            RoomSource::Slice => Source::Slice,
-            RoomSource::Ipv4 => Source::Ipv4,
-            RoomSource::Ipv6 => Source::Ipv6,
-        }
-    }
-}
-
 // What set the length that a refusal found too short.
-#[derive(Clone, Copy)]
+#[derive(Clone, Copy, Debug, PartialEq, Eq)]
 pub enum Source {
     Slice,
     Ipv4,
     Ipv6,
     Udp,
+}
+
+impl From<RoomSource> for Source {
+    ghost from_gives = { λ room source. source ≡ source_of room };
+
+    fn from(room: RoomSource) -> Source {
+        match room {
+            RoomSource::Slice => Source::Slice,
+            RoomSource::Ipv4 => Source::Ipv4,
+            RoomSource::Ipv6 => Source::Ipv6,
+        }
+    }
 }
 
 impl Source {

@@ -2,14 +2,14 @@
 use crate::{EtherType, IpNumber, Kind, RoomSource};
 
 // The number that names what follows: an EtherType is never taken for an IP number.
-#[derive(Clone, Copy)]
+#[derive(Clone, Copy, Debug, PartialEq, Eq)]
 pub enum Number {
     Link(EtherType),
     Ip(IpNumber),
 }
 
 // What is known where a header stands, besides its kind and offset.
-#[derive(Clone, Copy)]
+#[derive(Clone, Copy, Debug, PartialEq, Eq)]
 pub struct Room {
     // where the room ends, counted from the frame's start
     pub end: usize,
@@ -24,7 +24,7 @@ pub struct Room {
     pub mark: bool,
 }
 
-#[derive(Clone, Copy)]
+#[derive(Clone, Copy, Debug, PartialEq, Eq)]
 pub struct Place {
     pub at: usize,
     pub room: Room,
@@ -33,7 +33,7 @@ pub struct Place {
 
 // A header's answer: the number of its kind, its offset and its length. No kind has the number 0: a slot of zeros is no header.
 #[repr(C)]
-#[derive(Clone, Copy)]
+#[derive(Clone, Copy, Debug, Default, PartialEq, Eq)]
 pub struct Header {
     pub kind: usize,
     pub at: usize,
@@ -45,7 +45,7 @@ pub const HEADER_WORDS: usize = 3;
 
 // Some bytes of the frame: their offset from its start, and how many.
 #[repr(C)]
-#[derive(Clone, Copy)]
+#[derive(Clone, Copy, Debug, Default, PartialEq, Eq)]
 pub struct Range {
     pub at: usize,
     pub len: usize,

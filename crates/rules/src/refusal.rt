@@ -6,7 +6,7 @@ ghost use Rattle.rules.specs.Test.{bound_by, placed};
 use crate::{Kind, Layer, RoomSource, Source};
 
 // What bounds the bytes that a test counts: the room, or the value of a length field.
-#[derive(Clone, Copy)]
+#[derive(Clone, Copy, Debug, PartialEq, Eq)]
 pub enum Bound {
     Room,
     Ipv4TotalLength,
@@ -19,7 +19,7 @@ impl Bound {
         ensures { result ≡ bound_by self room }
     {
         match self {
-            Bound::Room => room.source(),
+            Bound::Room => Source::from(room),
             Bound::Ipv4TotalLength => Source::Ipv4,
             Bound::UdpLength => Source::Udp,
         }
@@ -27,7 +27,7 @@ impl Bound {
 }
 
 // What a reader can tell from its own bytes.
-#[derive(Clone, Copy)]
+#[derive(Clone, Copy, Debug, PartialEq, Eq)]
 pub enum Fault {
     TooShort {
         required: usize,
@@ -80,7 +80,7 @@ impl Fault {
     }
 }
 
-#[derive(Clone, Copy)]
+#[derive(Clone, Copy, Debug, PartialEq, Eq)]
 pub enum Refusal {
     TooShort {
         offset: usize,
@@ -116,7 +116,7 @@ pub enum Refusal {
 // A refusal as document 01's table has it: its number, its layer's number and its offset, and what else its row
 // carries, in the table's order (required, have, the source's number; or the one value), zeros after that.
 #[repr(C)]
-#[derive(Clone, Copy)]
+#[derive(Clone, Copy, Debug, Default, PartialEq, Eq)]
 pub struct Row {
     pub number: usize,
     pub layer: usize,
@@ -124,11 +124,11 @@ pub struct Row {
     pub values: [usize; 3],
 }
 
-impl Refusal {
-    pub fn row(self) -> Row
-        ensures { result ≡ refusal_on_paper self }
-    {
-        match self {
+impl From<Refusal> for Row {
+    ghost from_gives = { λ refusal row. row ≡ refusal_on_paper refusal };
+
+    fn from(refusal: Refusal) -> Row {
+        match refusal {
             Refusal::TooShort {
                 offset,
                 required,

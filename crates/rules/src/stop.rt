@@ -4,7 +4,7 @@ ghost use Rattle.rules.specs.Named.{stop_number};
 
 use crate::{Number, Range};
 
-#[derive(Clone, Copy)]
+#[derive(Clone, Copy, Debug, PartialEq, Eq)]
 pub enum Stop {
     EtherTypeNotOpened,
     TagsFull,
@@ -28,7 +28,7 @@ impl Stop {
 }
 
 // Why the walk stopped, the number that names the payload, and the payload's range.
-#[derive(Clone, Copy)]
+#[derive(Clone, Copy, Debug, PartialEq, Eq)]
 pub struct Ending {
     pub payload: Range,
     pub number: Number,

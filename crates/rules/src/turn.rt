@@ -2,7 +2,7 @@
 use crate::{Kind, Stop};
 
 // To a header of a kind, to a stop, or to a hop-by-hop header that is not at the start of its chain.
-#[derive(Clone, Copy)]
+#[derive(Clone, Copy, Debug, PartialEq, Eq)]
 pub enum Turn {
     Opens(Kind),
     Stops(Stop),
@@ -10,7 +10,7 @@ pub enum Turn {
 }
 
 // "Number 0 is hop-by-hop directly after the IPv6 header; later in an IPv6 chain it is refusal 5."
-#[derive(Clone, Copy)]
+#[derive(Clone, Copy, Debug, PartialEq, Eq)]
 pub enum ChainPlace {
     Directly,
     Later,
