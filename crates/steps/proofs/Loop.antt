@@ -1,4 +1,5 @@
 -- The loop over the headers of a frame, and what it answers. Assumes nothing.
+use Rattle.std.specs.Prelude.{Ok, Err, Result}
 use Prim.Native.Nat.{ℕ, ◌+◌, ◌-◌, ◌*◌, ◌/◌, ◌≤◌, ◌<◌, min}
 use mathlib.Core.Path.{◌≡◌, refl, sym, ap, ◌∙◌}
 use mathlib.Core.List.{List, [], ◌∷◌, ◌++◌, map, map-append, append-nil}
@@ -30,8 +31,6 @@ use Rattle.laws.specs.Gather.{Way, gather, gathered, listed, rest, rest_next, re
 use Rattle.laws.specs.Parts.{In}
 use Rattle.laws.specs.Walks.{nth_past}
 use Rattle.one_header.specs.declared.header.HeaderFound.{HeaderFound}
-use Rattle.one_header.specs.declared.header.HeaderRead.{HeaderRead}
-use Rattle.one_header.specs.declared.header.HeaderRead.TheVariants as D
 use Rattle.one_header.specs.Header.{left_by, found_on_paper}
 use Rattle.laws.specs.Zeros.{zeros}
 use Rattle.steps.specs.Lists.{headers_read, headers_listed, written_from, list_of}
@@ -130,12 +129,12 @@ module _ {s : List ℕ} {k : ℕ} {walk : Trace HeaderAt} {o : List ℕ} {kind :
     pub stored : out' ≡ written_from k (map header (with_here x)) o
     pub left : walk ≡ rest walk_way (with_here x) s (follow x.turn (left_by x at p) (at + x.len) x.number (at + x.to))
 
-  module _ {d : HeaderRead} (e : ReadAs s kind at p d) where
-    pub going_refused : {r : Refusal} → d ≡ D.Refused r → Answers k o walk (refusal (refusal_on_paper r)) out
+  module _ {d : Result HeaderFound Refusal} (e : ReadAs s kind at p d) where
+    pub going_refused : {r : Refusal} → d ≡ Err r → Answers k o walk (refusal (refusal_on_paper r)) out
     going_refused q = refused_answers k o (g.left ∙ gather_refused walk_way g.before s _ (reading kind g.inside e q)) g.stored
 
     -- the three ways past a whole header: it is written; the numbers are full; header k is not reached
-    module _ {x : HeaderFound} (q : d ≡ D.Whole x) where
+    module _ {x : HeaderFound} (q : d ≡ Ok x) where
       counted_headers : count ≡ length (map header g.before)
       counted_headers = g.counted ∙ sym (length-map g.before header)
 

@@ -1,24 +1,21 @@
 -- Headers by number and their count, and the headers written as numbers.
-use Rattle.std.specs.Prelude.{ℕ, List, [], ◌∷◌, map, drop}
+use Rattle.std.specs.Prelude.{ℕ, List, [], ◌∷◌, map, drop, Option, Some, None, Result, Ok, Err}
 use Rattle.rules.specs.declared.place.Header.{Header}
+use Rattle.rules.specs.declared.refusal.Refusal.{Refusal}
 use Rattle.rules.specs.Paper.{refusal_on_paper}
 use Rattle.rules.specs.Walk.{Trace, accepted, refused, unfinished, HeaderAt, header, Answer, is, no-more, refusal}
 use Rattle.laws.specs.Zeros.{zeros}
-use Rattle.steps.specs.declared.list.HeaderAnswer.{HeaderAnswer}
-use Rattle.steps.specs.declared.list.HeaderAnswer.TheVariants as H
-use Rattle.steps.specs.declared.list.CountAnswer.{CountAnswer}
-use Rattle.steps.specs.declared.list.CountAnswer.TheVariants as C
 
 -- ---- the answers on paper
 
-abbrev pub header_on_paper : HeaderAnswer → Answer Header
-header_on_paper (H.Is h) = is h
-header_on_paper H.NoMore = no-more
-header_on_paper (H.Refused r) = refusal (refusal_on_paper r)
+abbrev pub header_on_paper : Result (Option Header) Refusal → Answer Header
+header_on_paper (Ok (Some h)) = is h
+header_on_paper (Ok None) = no-more
+header_on_paper (Err r) = refusal (refusal_on_paper r)
 
-abbrev pub count_on_paper : CountAnswer → Answer ℕ
-count_on_paper (C.Is n) = is n
-count_on_paper (C.Refused r) = refusal (refusal_on_paper r)
+abbrev pub count_on_paper : Result ℕ Refusal → Answer ℕ
+count_on_paper (Ok n) = is n
+count_on_paper (Err r) = refusal (refusal_on_paper r)
 
 -- ---- the headers written as numbers
 

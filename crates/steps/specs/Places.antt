@@ -1,5 +1,5 @@
 -- The step from a place: what the header there leads to.
-use Rattle.std.specs.Prelude.{ℕ, ◌≡◌, refl, Bool, List, length, leb}
+use Rattle.std.specs.Prelude.{ℕ, ◌≡◌, refl, Bool, List, length, leb, Result, Ok, Err}
 use Rattle.std.proofs.Common.{ap}
 use Rattle.rules.specs.declared.place.Place.{Place}
 use Rattle.rules.specs.declared.refusal.Row.{Row}
@@ -11,6 +11,8 @@ use Rattle.rules.specs.Place.{Stopped, ending_on_paper, Follow, next, halt, wron
 use Rattle.laws.specs.Back.{Back, settled_by, kind-back, room_source_back}
 use Rattle.steps.specs.declared.place.Step.{Step}
 use Rattle.steps.specs.declared.place.Step.TheVariants as S
+use Rattle.steps.specs.declared.place.NoStep.{NoStep}
+use Rattle.steps.specs.declared.place.NoStep.TheVariants as N
 
 -- a place: where a header of a kind stands, and in which room. Kind and source by their numbers
 pub record PlaceTold : Type 0 where
@@ -42,11 +44,11 @@ pub data Stepped : Type 0 where
   refused : Row → Stepped
   not_a_place : Stepped
 
-abbrev pub step_on_paper : Step → Stepped
-step_on_paper (S.Next len p) = on len (place_on_paper p)
-step_on_paper (S.Last len e) = last len (ending_on_paper e)
-step_on_paper (S.Refused r) = refused (refusal_on_paper r)
-step_on_paper S.NotAPlace = not_a_place
+abbrev pub step_on_paper : Result Step NoStep → Stepped
+step_on_paper (Ok (S.Next len p)) = on len (place_on_paper p)
+step_on_paper (Ok (S.Last len e)) = last len (ending_on_paper e)
+step_on_paper (Err (N.Refused r)) = refused (refusal_on_paper r)
+step_on_paper (Err N.NotAPlace) = not_a_place
 
 abbrev pub leads : ℕ → Follow → Stepped
 leads len (next q) = on len (place_on_paper q)

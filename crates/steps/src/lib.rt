@@ -5,5 +5,5 @@
 mod list;
 mod place;
 
-pub use list::{CountAnswer, HeaderAnswer, clear, count, header, headers};
-pub use place::{Step, first, next};
+pub use list::{clear, count, header, headers};
+pub use place::{NoStep, Step, first, next};

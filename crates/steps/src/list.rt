@@ -1,71 +1,32 @@
 // The headers of a frame as numbers, by number, and their count. All three are one walk, and it is finished before anything
 // is answered: a refused frame answers its refusal alone.
-ghost use Rattle.std.specs.Prelude.{◌≡◌, ◌-◌, min, length};
+ghost use Rattle.std.specs.Prelude.{◌≡◌, length};
 ghost use Rattle.rules.specs.Walk.{header_of, count_of, slices};
 ghost use Rattle.laws.specs.Zeros.{zeros};
-ghost use Rattle.steps.specs.Kept.{kept};
 ghost use Rattle.steps.specs.Lists.{
   header_on_paper,
   count_on_paper,
+  headers_read,
+  written_from,
   list_of,
 };
 
 use crate::place::{first, room_behind};
-use one_header::{HeaderRead, header_at};
+use one_header::header_at;
 use rules::{Entry, HEADER_WORDS, Header, Refusal, Turn};
-
-#[derive(Clone, Copy)]
-pub enum HeaderAnswer {
-    Is(Header),
-    NoMore,
-    Refused(Refusal),
-}
-
-#[derive(Clone, Copy)]
-pub enum CountAnswer {
-    Is(usize),
-    Refused(Refusal),
-}
-
-// The lent numbers from an index on become zeros: no header has the kind 0.
-fn clear_from(out: &mut [usize], from: usize)
-    ensures { out.new ≡ kept from out.old }
-{
-    let mut i = from;
-    while i < out.len() {
-        out[i] = 0;
-        i += 1;
-    }
-}
 
 // All the lent numbers become zeros.
 pub fn clear(out: &mut [usize])
     ensures { out.new ≡ zeros (length out.old) }
 {
-    clear_from(out, 0)
+    out.fill(0);
 }
 
-// How many headers from number k on are listed, where there is room for so many.
-fn listed(count: usize, k: usize, room: usize) -> usize
-    ensures { result ≡ min (count - k) room }
-{
-    if count < k {
-        return 0;
-    }
-    let behind = count - k;
-    if behind < room {
-        return behind;
-    }
-    room
-}
-
-// The headers of a frame from number k on, three numbers each (kind, offset, length), as many as the lent numbers have room for, and
-// zeros behind them; the answer is how many headers the frame has. Of a refused frame there are zeros alone: headers are written as the walk
-// comes to them, and cleared where it is refused.
-pub fn headers(s: &[u8], entry: Entry, k: usize, out: &mut [usize]) -> CountAnswer
+// The walk of a frame: each header from number k on is written as the walk comes to it, as far as there is room for all of its numbers;
+// also those in front of a refusal. The answer is how many headers the frame has.
+fn walk(s: &[u8], entry: Entry, k: usize, out: &mut [usize]) -> Result<usize, Refusal>
     ensures answer { count_on_paper result ≡ count_of (slices entry s.now) }
-    ensures listed { out.new ≡ list_of (slices entry s.now) k (length out.old) }
-    ensures unwritten { s.exit.now ≡ s.entry.now }
+    ensures written { out.new ≡ written_from k (headers_read (slices entry s.now)) out.old }
 {
     let begin = first(s, entry);
     let mut kind = begin.kind;
@@ -74,75 +35,77 @@ pub fn headers(s: &[u8], entry: Entry, k: usize, out: &mut [usize]) -> CountAnsw
     let mut count: usize = 0;
     let spare = out.len() / HEADER_WORDS;
     loop {
-        let end = room.end;
-        let read = header_at(&s[at..end], kind, at, room);
-        match read {
-            HeaderRead::Refused(refusal) => {
-                clear_from(out, 0);
-                return CountAnswer::Refused(refusal);
+        let x = header_at(&s[at..room.end], kind, at, room)?;
+        if k <= count {
+            let to = count - k;
+            if to < spare {
+                let base = HEADER_WORDS * to;
+                let second = base + 1;
+                let third = base + 2;
+                out[base] = kind.number();
+                out[second] = at;
+                out[third] = x.len;
             }
-            HeaderRead::Whole(x) => {
-                if k <= count {
-                    let to = count - k;
-                    if to < spare {
-                        let base = HEADER_WORDS * to;
-                        let second = base + 1;
-                        let third = base + 2;
-                        out[base] = kind.number();
-                        out[second] = at;
-                        out[third] = x.len;
-                    }
-                }
-                count += 1;
-                let past = at + x.len;
-                let turn = x.turn;
-                match turn {
-                    Turn::Opens(next) => {
-                        room = room_behind(next, at, x, room);
-                        kind = next;
-                        at = past;
-                    }
-                    Turn::Stops(_) => {
-                        clear_from(out, HEADER_WORDS * listed(count, k, spare));
-                        return CountAnswer::Is(count);
-                    }
-                    Turn::LateHopByHop => {
-                        clear_from(out, 0);
-                        return CountAnswer::Refused(Refusal::HopByHopNotAtStart { offset: past });
-                    }
-                }
+        }
+        count += 1;
+        let past = at + x.len;
+        match x.turn {
+            Turn::Opens(next) => {
+                room = room_behind(next, at, x, room);
+                kind = next;
+                at = past;
             }
+            Turn::Stops(_) => {
+                return Ok(count);
+            }
+            Turn::LateHopByHop => {
+                return Err(Refusal::HopByHopNotAtStart { offset: past });
+            }
+        }
+    }
+}
+
+// The headers of a frame from number k on, three numbers each (kind, offset, length), as many as the lent numbers have room for, and
+// zeros behind them; the answer is how many headers the frame has. Of a refused frame there are zeros alone.
+pub fn headers(s: &[u8], entry: Entry, k: usize, out: &mut [usize]) -> Result<usize, Refusal>
+    ensures answer { count_on_paper result ≡ count_of (slices entry s.now) }
+    ensures listed { out.new ≡ list_of (slices entry s.now) k (length out.old) }
+    ensures unwritten { s.exit.now ≡ s.entry.now }
+{
+    match walk(s, entry, k, out) {
+        Ok(count) => {
+            let listed = count.saturating_sub(k).min(out.len() / HEADER_WORDS);
+            out[HEADER_WORDS * listed..].fill(0);
+            Ok(count)
+        }
+        Err(refusal) => {
+            clear(out);
+            Err(refusal)
         }
     }
 }
 
 // Header number k of a frame.
-pub fn header(s: &[u8], entry: Entry, k: usize) -> HeaderAnswer
+pub fn header(s: &[u8], entry: Entry, k: usize) -> Result<Option<Header>, Refusal>
     ensures answer { header_on_paper result ≡ header_of (slices entry s.now) k }
     ensures unwritten { s.exit.now ≡ s.entry.now }
 {
-    let mut one: [usize; HEADER_WORDS] = [0; HEADER_WORDS];
-    let counted = headers(s, entry, k, &mut one);
-    match counted {
-        CountAnswer::Is(count) => {
-            if k < count {
-                return HeaderAnswer::Is(Header {
-                    kind: one[0],
-                    at: one[1],
-                    len: one[2],
-                });
-            }
-            HeaderAnswer::NoMore
-        }
-        CountAnswer::Refused(refusal) => HeaderAnswer::Refused(refusal),
+    let mut one = [0; HEADER_WORDS];
+    let count = headers(s, entry, k, &mut one)?;
+    if k < count {
+        return Ok(Some(Header {
+            kind: one[0],
+            at: one[1],
+            len: one[2],
+        }));
     }
+    Ok(None)
 }
 
 // How many headers a frame has.
-pub fn count(s: &[u8], entry: Entry) -> CountAnswer
+pub fn count(s: &[u8], entry: Entry) -> Result<usize, Refusal>
     ensures answer { count_on_paper result ≡ count_of (slices entry s.now) }
     ensures unwritten { s.exit.now ≡ s.entry.now }
 {
-    let mut none: [usize; 0] = [];
-    headers(s, entry, 0, &mut none)
+    headers(s, entry, 0, &mut [])
 }

@@ -2,32 +2,46 @@
 ghost use Rattle.std.specs.Prelude.{◌≡◌, List, ℕ, ◌+◌, ◌-◌, ◌<◌, ◌^◌};
 ghost use Rattle.rules.specs.Place.{tags_with, ips_with, entered, next as next_place, start, opening};
 ghost use Rattle.one_header.specs.Header.{left_by};
+ghost use Rattle.steps.specs.declared.place.NoStep.TheVariants as NS;
 ghost use Rattle.steps.specs.Places.{opens, step_on_paper, step_says};
 
-use one_header::{HeaderFound, HeaderRead, header_at};
+use one_header::{HeaderFound, header_at};
 use rules::ether_type::TAG_LIMIT;
 use rules::ip_number::IP_LIMIT;
 use rules::{Ending, Entry, Kind, Place, Range, Refusal, Room, RoomSource, Turn};
 
-// What the header at a place leads to: the next place, the walk's end, or a refusal, the header's own or that of what it names.
-#[derive(Clone, Copy)]
+// What the header at a place leads to: the next place, or the walk's end.
+#[derive(Clone, Copy, Debug, PartialEq, Eq)]
 pub enum Step {
     Next { len: usize, place: Place },
     Last { len: usize, ending: Ending },
+}
+
+// Why there is no step: a refusal, the header's own or that of what it names; or the place is none.
+#[derive(Clone, Copy, Debug, PartialEq, Eq)]
+pub enum NoStep {
     Refused(Refusal),
     // No walk over this frame stands there: the room is past the frame, the offset past the room, or more is counted than
     // a frame can hold.
     NotAPlace,
 }
 
+impl From<Refusal> for NoStep {
+    ghost from_gives = { λ refusal result. result ≡ NS.Refused refusal };
+
+    fn from(refusal: Refusal) -> NoStep {
+        NoStep::Refused(refusal)
+    }
+}
+
 fn tags_with(kind: Kind, tags: usize) -> usize
     requires { tags + 1 < 2 ^ 64 }
     ensures { result ≡ tags_with kind tags }
 {
-    if kind.number() == Kind::Vlan.number() {
-        return tags + 1;
+    match kind {
+        Kind::Vlan => tags + 1,
+        _ => tags,
     }
-    tags
 }
 
 fn ips_with(kind: Kind, ips: usize) -> usize
@@ -35,17 +49,8 @@ fn ips_with(kind: Kind, ips: usize) -> usize
     ensures { result ≡ ips_with kind ips }
 {
     match kind {
-        Kind::Ipv4 => ips + 1,
-        Kind::Ipv6 => ips + 1,
-        Kind::Ethernet2 => ips,
-        Kind::Vlan => ips,
-        Kind::HopByHop => ips,
-        Kind::Routing => ips,
-        Kind::Destination => ips,
-        Kind::Fragment => ips,
-        Kind::Auth => ips,
-        Kind::Udp => ips,
-        Kind::Tcp => ips,
+        Kind::Ipv4 | Kind::Ipv6 => ips + 1,
+        _ => ips,
     }
 }
 
@@ -54,13 +59,12 @@ pub fn room_behind(kind: Kind, at: usize, x: HeaderFound, room: Room) -> Room
     requires { (at + x.end < 2 ^ 64) × (room.tags + 1 < 2 ^ 64) × (room.ips + 1 < 2 ^ 64) }
     ensures { result ≡ entered kind (left_by x at room) }
 {
-    let source = x.source;
     Room {
         end: at + x.end,
         tags: tags_with(kind, room.tags),
         version: x.version,
         ips: ips_with(kind, room.ips),
-        source,
+        source: x.source,
         mark: x.mark,
     }
 }
@@ -74,16 +78,6 @@ fn first_kind(entry: Entry) -> Kind
         Entry::Ipv4 => Kind::Ipv4,
         Entry::Ipv6 => Kind::Ipv6,
     }
-}
-
-// A difference, or 0 where there is none.
-fn minus(a: usize, b: usize) -> usize
-    ensures { result ≡ a - b }
-{
-    if a < b {
-        return 0;
-    }
-    a - b
 }
 
 // The place of a frame's first header.
@@ -104,7 +98,7 @@ pub fn first(s: &[u8], entry: Entry) -> Place
 }
 
 // Reads the header at a place, and no other.
-pub fn next(s: &[u8], place: Place) -> Step
+pub fn next(s: &[u8], place: Place) -> Result<Step, NoStep>
     ensures answer { step_on_paper result ≡ step_says s.now place }
     ensures unwritten { s.exit.now ≡ s.entry.now }
 {
@@ -112,52 +106,40 @@ pub fn next(s: &[u8], place: Place) -> Step
     let at = place.at;
     let end = room.end;
     if s.len() < end {
-        return Step::NotAPlace;
+        return Err(NoStep::NotAPlace);
     }
     if end < at {
-        return Step::NotAPlace;
+        return Err(NoStep::NotAPlace);
     }
     if TAG_LIMIT < room.tags {
-        return Step::NotAPlace;
+        return Err(NoStep::NotAPlace);
     }
     if IP_LIMIT < room.ips {
-        return Step::NotAPlace;
+        return Err(NoStep::NotAPlace);
     }
-    let kind = place.kind;
-    let read = header_at(&s[at..end], kind, at, room);
-    match read {
-        HeaderRead::Refused(refusal) => Step::Refused(refusal),
-        HeaderRead::Whole(x) => {
-            let past = at + x.len;
-            let turn = x.turn;
-            match turn {
-                Turn::Opens(opened) => {
-                    let inner = room_behind(opened, at, x, room);
-                    Step::Next {
-                        len: x.len,
-                        place: Place {
-                            at: past,
-                            room: inner,
-                            kind: opened,
-                        },
-                    }
-                }
-                Turn::Stops(stop) => {
-                    let number = x.number;
-                    Step::Last {
-                        len: x.len,
-                        ending: Ending {
-                            payload: Range {
-                                at: past,
-                                len: minus(x.to, x.len),
-                            },
-                            number,
-                            stop,
-                        },
-                    }
-                }
-                Turn::LateHopByHop => Step::Refused(Refusal::HopByHopNotAtStart { offset: past }),
-            }
-        }
+    let x = header_at(&s[at..end], place.kind, at, room)?;
+    let len = x.len;
+    let past = at + len;
+    match x.turn {
+        Turn::Opens(kind) => Ok(Step::Next {
+            len,
+            place: Place {
+                at: past,
+                room: room_behind(kind, at, x, room),
+                kind,
+            },
+        }),
+        Turn::Stops(stop) => Ok(Step::Last {
+            len,
+            ending: Ending {
+                payload: Range {
+                    at: past,
+                    len: x.to.saturating_sub(len),
+                },
+                number: x.number,
+                stop,
+            },
+        }),
+        Turn::LateHopByHop => Err(NoStep::Refused(Refusal::HopByHopNotAtStart { offset: past })),
     }
 }

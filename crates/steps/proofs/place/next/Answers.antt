@@ -6,6 +6,7 @@ use borrow.Author.Tests.{le-leb, lt-leb}
 use Prim.Native.Nat.{ℕ, ◌+◌, ◌-◌}
 use native.Mathlib.Omega.{arith}
 use mathlib.Core.Path.{◌≡◌, refl}
+use Rattle.std.proofs.lemmas.Result.{err_from_is_err_and}
 use Rattle.steps.proofs.place.next.Goals as goal
 use Rattle.steps.proofs.place.next.Goals.{Else-room-gt-IP_LIMIT}
 
@@ -44,30 +45,31 @@ returns-then-room-gt-IP_LIMIT-clause-answer c =
 
 pub overflow_add-past : goal.overflow_add-past
 overflow_add-past c =
-    let z = sizes _ (place_here (goal.at.overflow_add-past c).Else-room-gt-IP_LIMIT).inside c.header_at-read.ensures.answer c.in-Whole.is in omega (arith, z, c.if-s-end.false)
+    let z = sizes _ (place_here (goal.at.overflow_add-past c).Else-room-gt-IP_LIMIT).inside c.header_at.ensures.answer c.in_ok-x.was in omega (arith, z, c.if-s-end.false)
 
-pub room_behind-inner-requires : goal.room_behind-inner-requires
-room_behind-inner-requires c =
-    let z = sizes _ (place_here (goal.at.room_behind-inner-requires c).Else-room-gt-IP_LIMIT).inside c.header_at-read.ensures.answer c.in-Whole.is in
+pub room_behind-requires : goal.room_behind-requires
+room_behind-requires c =
+    let z = sizes _ (place_here (goal.at.room_behind-requires c).Else-room-gt-IP_LIMIT).inside c.header_at.ensures.answer c.in_ok-x.was in
     omega (arith, z, c.if-s-end.false, c.if-room-gt-TAG_LIMIT.false, c.if-room-gt-IP_LIMIT.false)
 
-pub returns-in-Refused-clause-answer : goal.returns-in-Refused-clause-answer
-returns-in-Refused-clause-answer c =
-    step-read (place_here (goal.at.returns-in-Refused-clause-answer c).Else-room-gt-IP_LIMIT) c.header_at-read.ensures.answer c.in-Refused.is
+pub returns-in_err-x-clause-answer : goal.returns-in_err-x-clause-answer
+returns-in_err-x-clause-answer c =
+    let p = err_from_is_err_and c.from_residual.result c.from_residual.ensures.1 in
+    rw (p.1, p.2) (step-read (place_here (goal.at.returns-in_err-x-clause-answer c).Else-room-gt-IP_LIMIT) c.header_at.ensures.answer c.in_err-x.was)
 
 pub returns-in-Opens-clause-answer : goal.returns-in-Opens-clause-answer
 unfolding follow
 returns-in-Opens-clause-answer c =
-    rw c.room_behind-inner.ensures (step_turn (place_here (goal.at.returns-in-Opens-clause-answer c).Else-room-gt-IP_LIMIT) c.header_at-read.ensures.answer c.in-Whole.is c.in-Opens.is)
+    rw c.room_behind.ensures (step_turn (place_here (goal.at.returns-in-Opens-clause-answer c).Else-room-gt-IP_LIMIT) c.header_at.ensures.answer c.in_ok-x.was c.in-Opens.is)
 
 pub returns-in-Stops-clause-answer : goal.returns-in-Stops-clause-answer
 unfolding follow
 returns-in-Stops-clause-answer c =
-    let x = c.in-Whole.x in
-    rw (c.minus.ensures, payload-len c.args.place.at x.to x.len)
-    (step_turn (place_here (goal.at.returns-in-Stops-clause-answer c).Else-room-gt-IP_LIMIT) c.header_at-read.ensures.answer c.in-Whole.is c.in-Stops.is)
+    let x = c.in_ok-x.x in
+    rw (c.saturating_sub.ensures, payload-len c.args.place.at x.to x.len)
+    (step_turn (place_here (goal.at.returns-in-Stops-clause-answer c).Else-room-gt-IP_LIMIT) c.header_at.ensures.answer c.in_ok-x.was c.in-Stops.is)
 
 pub returns-in-LateHopByHop-clause-answer : goal.returns-in-LateHopByHop-clause-answer
 unfolding follow
 returns-in-LateHopByHop-clause-answer c =
-    step_turn (place_here (goal.at.returns-in-LateHopByHop-clause-answer c).Else-room-gt-IP_LIMIT) c.header_at-read.ensures.answer c.in-Whole.is c.in-LateHopByHop.is
+    step_turn (place_here (goal.at.returns-in-LateHopByHop-clause-answer c).Else-room-gt-IP_LIMIT) c.header_at.ensures.answer c.in_ok-x.was c.in-LateHopByHop.is
