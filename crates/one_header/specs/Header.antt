@@ -103,6 +103,11 @@ ext_header (here x) chain have at p =
     })
 ext_header (refused r) chain have at p = refuses r
 
+-- of the chain's version it is asked only whether it is 4
+pub same_chain : (a b : ℕ) (o : Placed ExtHeader) (have at : ℕ) (p : Room) → eqb a 4 ≡ eqb b 4 → ext_header o a have at p ≡ ext_header o b have at p
+same_chain a b (here x) have at p e = rw e refl
+same_chain a b (refused r) have at p e = refl
+
 abbrev pub transport_header : Placed TransportHeader → (number have at : ℕ) → Room → PlaceRead
 transport_header (here x) number have at p =
     reads

@@ -42,6 +42,10 @@ abbrev pub sets_of : IpKind → RoomSource
 sets_of I.Ipv4 = R.Ipv4
 sets_of I.Ipv6 = R.Ipv6
 
+abbrev pub version_of : IpKind → ℕ
+version_of I.Ipv4 = 4
+version_of I.Ipv6 = 6
+
 abbrev pub link_kind_of : LinkKind → Kind
 link_kind_of N.Ethernet2 = K.Ethernet2
 link_kind_of N.Vlan = K.Vlan

@@ -1,9 +1,9 @@
 // A header of any kind at a place, for a walk that goes from header to header.
-ghost use Rattle.std.specs.Prelude.{◌≡◌, ℕ, length};
+ghost use Rattle.std.specs.Prelude.{◌≡◌, ℕ, length, eqb};
 ghost use Rattle.rules.specs.declared.place.Room.{Room as R};
 ghost use Rattle.one_header.specs.At.{at_on_paper};
 ghost use Rattle.rules.specs.Rules.{transport};
-ghost use Rattle.one_header.specs.Turns.{first_turn, later_turn, turn_by};
+ghost use Rattle.one_header.specs.Turns.{version_of, first_turn, later_turn, turn_by};
 ghost use Rattle.one_header.specs.Header.{
   header_read_on_paper,
   link_header,
@@ -46,41 +46,51 @@ fn link_header(
     ensures { (at : ℕ) → header_read_on_paper result at room ≡ link_header (at_on_paper read) len have at room }
 {
     let number = read?;
-    let source = room.source;
-    let turn = link_turn(number, room.tags);
     Ok(HeaderFound {
         len,
         end: have,
         to: have,
         version: room.version,
         number: Number::Link(number),
-        turn: Turn::from(turn),
-        source,
+        turn: Turn::from(link_turn(number, room.tags)),
+        source: room.source,
         mark: room.mark,
     })
 }
 
 // What the number of an IP header of a version opens.
-fn first_turn(number: IpNumber, version: usize) -> ExtTurn
-    ensures { (p : R) → first_turn version p number.0 ≡ turn_by result (transport p number.0) }
+fn first_turn(number: IpNumber, version: IpKind) -> ExtTurn
+    ensures { (p : R) → first_turn (version_of version) p number.0 ≡ turn_by result (transport p number.0) }
 {
-    if version == 4 {
-        if opens_auth(number) {
-            return ExtTurn::Opens(ExtKind::Auth);
+    match version {
+        IpKind::Ipv4 => {
+            if opens_auth(number) {
+                return ExtTurn::Opens(ExtKind::Auth);
+            }
+            ExtTurn::Ends
         }
-        return ExtTurn::Ends;
+        IpKind::Ipv6 => ext_turn(number, ChainPlace::Directly),
     }
-    ext_turn(number, ChainPlace::Directly)
 }
 
 // What the number of an extension opens, in the chain of an IP version.
-fn later_turn(number: IpNumber, chain: usize) -> ExtTurn
-    ensures { (p : R) → later_turn chain p number.0 ≡ turn_by result (transport p number.0) }
+fn later_turn(number: IpNumber, chain: IpKind) -> ExtTurn
+    ensures { (p : R) → later_turn (version_of chain) p number.0 ≡ turn_by result (transport p number.0) }
 {
-    if chain == 4 {
-        return ExtTurn::Ends;
+    match chain {
+        IpKind::Ipv4 => ExtTurn::Ends,
+        IpKind::Ipv6 => ext_turn(number, ChainPlace::Later),
     }
-    ext_turn(number, ChainPlace::Later)
+}
+
+// The chain that AUTH belongs to, by the version that a room tells: a room is the caller's, and may tell any number.
+fn chain_of(version: usize) -> IpKind
+    ensures { eqb (version_of result) 4 ≡ eqb version 4 }
+{
+    if version == 4 {
+        return IpKind::Ipv4;
+    }
+    IpKind::Ipv6
 }
 
 fn net_turn(turn: ExtTurn, number: IpNumber, mark: bool) -> Turn
@@ -89,27 +99,24 @@ fn net_turn(turn: ExtTurn, number: IpNumber, mark: bool) -> Turn
     match turn {
         ExtTurn::Opens(kind) => Turn::Opens(Kind::from(kind)),
         ExtTurn::LateHopByHop => Turn::LateHopByHop,
-        ExtTurn::Ends => { Turn::from(transport_turn(number, mark)) }
+        ExtTurn::Ends => Turn::from(transport_turn(number, mark)),
     }
 }
 
-fn ip_header(read: Result<IpFound, Refusal>, version: usize) -> Result<HeaderFound, Refusal>
-    ensures { (at : ℕ) (p : R) → header_read_on_paper result at p ≡ ip_header (at_on_paper read) version at p }
+fn ip_header(read: Result<IpFound, Refusal>, version: IpKind) -> Result<HeaderFound, Refusal>
+    ensures { (at : ℕ) (p : R) → header_read_on_paper result at p ≡ ip_header (at_on_paper read) (version_of version) at p }
 {
     let x = read?;
-    let source = x.source;
-    let number = x.names;
-    let fragment = x.fragment;
-    let mark = fragment.marks(false);
-    let first = first_turn(number, version);
+    let mark = x.fragment.marks(false);
+    let first = first_turn(x.names, version);
     Ok(HeaderFound {
         len: x.len,
         end: x.end,
         to: x.end,
-        version,
-        number: Number::Ip(number),
-        turn: net_turn(first, number, mark),
-        source,
+        version: version.number(),
+        number: Number::Ip(x.names),
+        turn: net_turn(first, x.names, mark),
+        source: x.source,
         mark,
     })
 }
@@ -117,26 +124,23 @@ fn ip_header(read: Result<IpFound, Refusal>, version: usize) -> Result<HeaderFou
 // AUTH belongs to the chain of its packet's version; the others are IPv6's.
 fn ext_header(
     read: Result<ExtHeader, Refusal>,
-    chain: usize,
+    chain: IpKind,
     have: usize,
     room: Room,
 ) -> Result<HeaderFound, Refusal>
-    ensures { (at : ℕ) → header_read_on_paper result at room ≡ ext_header (at_on_paper read) chain have at room }
+    ensures { (at : ℕ) → header_read_on_paper result at room ≡ ext_header (at_on_paper read) (version_of chain) have at room }
 {
     let x = read?;
-    let source = room.source;
-    let number = x.names;
-    let fragment = x.fragment;
-    let mark = fragment.marks(room.mark);
-    let later = later_turn(number, chain);
+    let mark = x.fragment.marks(room.mark);
+    let later = later_turn(x.names, chain);
     Ok(HeaderFound {
         len: x.len,
         end: have,
         to: have,
         version: room.version,
-        number: Number::Ip(number),
-        turn: net_turn(later, number, mark),
-        source,
+        number: Number::Ip(x.names),
+        turn: net_turn(later, x.names, mark),
+        source: room.source,
         mark,
     })
 }
@@ -150,7 +154,6 @@ fn transport_header(
     ensures { (at : ℕ) → header_read_on_paper result at room ≡ transport_header (at_on_paper read) number have at room }
 {
     let x = read?;
-    let source = room.source;
     Ok(HeaderFound {
         len: x.len,
         end: have,
@@ -158,7 +161,7 @@ fn transport_header(
         version: room.version,
         number: Number::Ip(IpNumber(number)),
         turn: Turn::Stops(stop_behind()),
-        source,
+        source: room.source,
         mark: room.mark,
     })
 }
@@ -184,15 +187,35 @@ pub fn header_at(w: &[u8], kind: Kind, at: usize, room: Room) -> Result<HeaderFo
             have,
             room,
         ),
-        Kind::Ipv4 => ip_header(ip_at(w, IpKind::Ipv4, at, source), 4),
-        Kind::Ipv6 => ip_header(ip_at(w, IpKind::Ipv6, at, source), 6),
-        Kind::HopByHop => ext_header(ext_at(w, ExtKind::HopByHop, at, source), 6, have, room),
-        Kind::Routing => ext_header(ext_at(w, ExtKind::Routing, at, source), 6, have, room),
-        Kind::Destination => ext_header(ext_at(w, ExtKind::Destination, at, source), 6, have, room),
-        Kind::Fragment => ext_header(ext_at(w, ExtKind::Fragment, at, source), 6, have, room),
+        Kind::Ipv4 => ip_header(ip_at(w, IpKind::Ipv4, at, source), IpKind::Ipv4),
+        Kind::Ipv6 => ip_header(ip_at(w, IpKind::Ipv6, at, source), IpKind::Ipv6),
+        Kind::HopByHop => ext_header(
+            ext_at(w, ExtKind::HopByHop, at, source),
+            IpKind::Ipv6,
+            have,
+            room,
+        ),
+        Kind::Routing => ext_header(
+            ext_at(w, ExtKind::Routing, at, source),
+            IpKind::Ipv6,
+            have,
+            room,
+        ),
+        Kind::Destination => ext_header(
+            ext_at(w, ExtKind::Destination, at, source),
+            IpKind::Ipv6,
+            have,
+            room,
+        ),
+        Kind::Fragment => ext_header(
+            ext_at(w, ExtKind::Fragment, at, source),
+            IpKind::Ipv6,
+            have,
+            room,
+        ),
         Kind::Auth => ext_header(
             ext_at(w, ExtKind::Auth, at, source),
-            room.version,
+            chain_of(room.version),
             have,
             room,
         ),

@@ -3,7 +3,7 @@ ghost use Rattle.std.specs.Prelude.{◌≡◌, ℕ, length, eqb};
 ghost use Rattle.rules.specs.Numbers.{auth_number};
 ghost use Rattle.headers.specs.Says.{read_on_paper, ip_says};
 ghost use Rattle.one_header.specs.At.{at_on_paper, placing, over, setting};
-ghost use Rattle.one_header.specs.Turns.{ip_kind_of, sets_of};
+ghost use Rattle.one_header.specs.Turns.{ip_kind_of, sets_of, version_of};
 
 use headers::IpHeader;
 use rules::{Fault, Fragment, IpNumber, Kind, Refusal, RoomSource, ip_number};
@@ -21,6 +21,18 @@ impl From<IpKind> for Kind {
         match kind {
             IpKind::Ipv4 => Kind::Ipv4,
             IpKind::Ipv6 => Kind::Ipv6,
+        }
+    }
+}
+
+impl IpKind {
+    // The version that stands in the header.
+    pub fn number(self) -> usize
+        ensures { result ≡ version_of self }
+    {
+        match self {
+            IpKind::Ipv4 => 4,
+            IpKind::Ipv6 => 6,
         }
     }
 }
@@ -53,20 +65,18 @@ pub struct IpFound {
 fn set_room(x: IpHeader, have: usize, sets: RoomSource, source: RoomSource) -> IpFound
     ensures { result ≡ setting x have sets source }
 {
-    let names = x.names;
-    let fragment = x.fragment;
     if x.declared == 0 {
         return IpFound {
-            names,
-            fragment,
+            names: x.names,
+            fragment: x.fragment,
             source,
             len: x.len,
             end: have,
         };
     }
     IpFound {
-        names,
-        fragment,
+        names: x.names,
+        fragment: x.fragment,
         source: sets,
         len: x.len,
         end: x.declared,

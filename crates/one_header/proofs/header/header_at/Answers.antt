@@ -1,6 +1,6 @@
 -- `header::header_at` meets its contract. Assumes nothing.
 use Rattle.one_header.specs.Header.{ethernet_reads, vlan_reads, ipv4_reads, ipv6_reads}
-use Rattle.one_header.specs.Header.{hop_reads, routing_reads, destination_reads, fragment_reads, auth_reads, udp_reads, tcp_reads}
+use Rattle.one_header.specs.Header.{hop_reads, routing_reads, destination_reads, fragment_reads, auth_reads, same_chain, udp_reads, tcp_reads}
 use mathlib.Core.Path.{◌∙◌}
 use Rattle.one_header.proofs.header.header_at.Goals as goal
 
@@ -44,7 +44,8 @@ returns-in-Fragment-clause-answer c =
 
 pub returns-in-Auth-clause-answer : goal.returns-in-Auth-clause-answer
 returns-in-Auth-clause-answer c =
-    let at = c.args.at in let p = c.args.room in rw c.in-Auth.is (c.ext_header-in-Auth.ensures c.args.at ∙ auth_reads _ at p (c.ext_at-in-Auth.ensures.answer p.version))
+    let at = c.args.at in let p = c.args.room in rw c.in-Auth.is (c.ext_header-in-Auth.ensures c.args.at ∙ same_chain _ _ _ _ at p c.chain_of.ensures
+    ∙ auth_reads _ at p (c.ext_at-in-Auth.ensures.answer p.version))
 
 pub returns-in-Udp-clause-answer : goal.returns-in-Udp-clause-answer
 returns-in-Udp-clause-answer c =
