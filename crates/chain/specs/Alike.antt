@@ -1,8 +1,9 @@
 -- Two frames whose walks tell the same get the same public answers. Where frames are alike, DeclaredLength.antt and Deciding.antt say.
-use Rattle.std.specs.Prelude.{ℕ, suc, ◌≡◌, refl, length}
+use Rattle.std.specs.Prelude.{ℕ, suc, ◌≡◌, refl, length, Option, Some, None, Result}
 use Rattle.std.proofs.Common.{sym, ◌∙◌}
 use Rattle.std.proofs.Math.Path.{ap}
 use mathlib.Core.List.{List, [], ◌∷◌, ◌++◌, map}
+use Rattle.rules.specs.declared.refusal.Refusal.{Refusal}
 use Rattle.rules.specs.declared.entry.Entry.{Entry}
 use Rattle.rules.specs.declared.kind.Kind.{Kind}
 use Rattle.rules.specs.declared.kind.Kind.TheVariants.{Ethernet2, Vlan, Ipv4, Ipv6, HopByHop, Routing, Destination, Fragment, Auth, Udp, Tcp}
@@ -13,11 +14,7 @@ use Rattle.laws.specs.Openings.{ending}
 use Rattle.laws.specs.Zeros.{zeros}
 use Rattle.slicer.specs.declared.packet.SlicedPacket.{SlicedPacket}
 use Rattle.slicer.specs.Reply.{reply_of, Parts, slice_way, nothing, put}
-use Rattle.steps.specs.declared.list.HeaderAnswer.{HeaderAnswer}
-use Rattle.steps.specs.declared.list.CountAnswer.{CountAnswer}
 use Rattle.steps.specs.Lists.{headers_listed, written_from, list_of}
-use Rattle.exports.specs.declared.Chosen.{Chosen}
-use Rattle.exports.specs.declared.Chosen.TheVariants as C
 use Rattle.exports.specs.Handed.{slice_for, header_for, count_for, list_for, packet_by, header_by, count_answer_by}
 use Rattle.printing.specs.Text.{text, text_of, line_of, header_lines, ending_lines}
 use Rattle.chain.specs.Answers.{Sliced, HeaderIs, CountIs, ListIs}
@@ -133,13 +130,13 @@ module _ (entry : Entry) (s t : List ℕ) (a : Alike entry s t) where
 
   -- ---- and so are the public answers: what slice, header, count and headers answer, and what headers leaves in n lent numbers
 
-  pub same_reply : (x y : SlicedPacket) → Sliced entry s x → Sliced entry t y → x ≡ y
+  pub same_reply : (x y : Result SlicedPacket Refusal) → Sliced entry s x → Sliced entry t y → x ≡ y
   same_reply x y e f = settled_by packet_back e (f ∙ sym alike_reply)
 
-  pub same_header : (k : ℕ) (x y : HeaderAnswer) → HeaderIs entry s k x → HeaderIs entry t k y → x ≡ y
+  pub same_header : (k : ℕ) (x y : Result (Option Header) Refusal) → HeaderIs entry s k x → HeaderIs entry t k y → x ≡ y
   same_header k x y e f = settled_by header_back e (f ∙ sym (alike-header k))
 
-  pub same_count : (x y : CountAnswer) → CountIs entry s x → CountIs entry t y → x ≡ y
+  pub same_count : (x y : Result ℕ Refusal) → CountIs entry s x → CountIs entry t y → x ≡ y
   same_count x y e f = settled_by count_back e (f ∙ sym alike_count)
 
   pub same_list : (k n : ℕ) (x y : List ℕ) → ListIs entry s k n x → ListIs entry t k n y → x ≡ y
@@ -147,22 +144,22 @@ module _ (entry : Entry) (s t : List ℕ) (a : Alike entry s t) where
 
 -- ---- of each export that takes a frame, by an entry's number; for a number that no entry has nothing is asked of the frames
 
-abbrev pub AlikeBy : Chosen → List ℕ → List ℕ → Type 0
-AlikeBy (C.Is entry) s t = Alike entry s t
-AlikeBy C.Unknown s t = Unit
+abbrev pub AlikeBy : Option Entry → List ℕ → List ℕ → Type 0
+AlikeBy (Some entry) s t = Alike entry s t
+AlikeBy None s t = Unit
 
-pub same_packet : (c : Chosen) (s t : List ℕ) → AlikeBy c s t → slice_for c s ≡ slice_for c t
-same_packet (C.Is entry) s t a = ap packet_by (alike_reply entry s t a)
-same_packet C.Unknown s t a = refl
+pub same_packet : (c : Option Entry) (s t : List ℕ) → AlikeBy c s t → slice_for c s ≡ slice_for c t
+same_packet (Some entry) s t a = ap packet_by (alike_reply entry s t a)
+same_packet None s t a = refl
 
-pub same_header_reply : (c : Chosen) (s t : List ℕ) (k : ℕ) → AlikeBy c s t → header_for c s k ≡ header_for c t k
-same_header_reply (C.Is entry) s t k a = ap header_by (alike-header entry s t a k)
-same_header_reply C.Unknown s t k a = refl
+pub same_header_reply : (c : Option Entry) (s t : List ℕ) (k : ℕ) → AlikeBy c s t → header_for c s k ≡ header_for c t k
+same_header_reply (Some entry) s t k a = ap header_by (alike-header entry s t a k)
+same_header_reply None s t k a = refl
 
-pub same_count_reply : (c : Chosen) (s t : List ℕ) → AlikeBy c s t → count_for c s ≡ count_for c t
-same_count_reply (C.Is entry) s t a = ap count_answer_by (alike_count entry s t a)
-same_count_reply C.Unknown s t a = refl
+pub same_count_reply : (c : Option Entry) (s t : List ℕ) → AlikeBy c s t → count_for c s ≡ count_for c t
+same_count_reply (Some entry) s t a = ap count_answer_by (alike_count entry s t a)
+same_count_reply None s t a = refl
 
-pub same_heads : (c : Chosen) (s t : List ℕ) (k n : ℕ) → AlikeBy c s t → list_for c s k n ≡ list_for c t k n
-same_heads (C.Is entry) s t k n a = alike_list entry s t a k n
-same_heads C.Unknown s t k n a = refl
+pub same_heads : (c : Option Entry) (s t : List ℕ) (k n : ℕ) → AlikeBy c s t → list_for c s k n ≡ list_for c t k n
+same_heads (Some entry) s t k n a = alike_list entry s t a k n
+same_heads None s t k n a = refl

@@ -1,6 +1,6 @@
 -- "Each short-length refusal asks for more than there was": for a reader's fault, a step, the reply, header k, the count, the list's answer
 -- and the exports. All of them come to the lemma on `judge`.
-use Rattle.std.specs.Prelude.{ℕ, ◌<◌, ◌-◌, ◌≡◌, refl, Bool, true, false, List, [], ◌∷◌, leb, length}
+use Rattle.std.specs.Prelude.{ℕ, ◌<◌, ◌-◌, ◌≡◌, refl, Bool, true, false, List, [], ◌∷◌, leb, length, Err}
 use Rattle.std.proofs.Common.{sym, ap, ◌∙◌, subst, arith}
 use Rattle.rules.specs.declared.entry.Entry.{Entry}
 use Rattle.rules.specs.declared.kind.Kind.{Kind}
@@ -27,7 +27,7 @@ use Rattle.rules.specs.Place.{Found, Follow, next, halt, wrong, follow, follow_o
 use Rattle.rules.specs.Walk.{HeaderAt}
 use Rattle.laws.specs.Openings.{Asks, opening-asks}
 use Rattle.laws.specs.Reads.{parts}
-use Rattle.steps.specs.declared.place.Step.TheVariants as N
+use Rattle.steps.specs.declared.place.NoStep.TheVariants as N
 use Rattle.steps.specs.Places.{Stepped, refused, not_a_place, leads, steps, step_says}
 use Rattle.chain.specs.Chain.{past_at, room_at}
 use Rattle.chain.specs.Broken.{FirstFailed, this, later, Broken, fails, late_hop, more, BrokenFrom, opened, unopened, BrokenOf}
@@ -158,7 +158,7 @@ pick_refused true e = e
 pick_refused false e = cc
 
 pub step-asks_for_more : (s : List ℕ) (p : Place) (offset required have : ℕ) (layer : Layer) (source : Source)
-    → StepIs s p (N.Refused (R.TooShort offset required have layer source)) → have < required
+    → StepIs s p (Err (N.Refused (R.TooShort offset required have layer source))) → have < required
 unfolding step_says
 step-asks_for_more s p offset required have layer source e =
     steps_ask s p

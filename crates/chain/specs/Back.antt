@@ -1,10 +1,12 @@
 -- From the paper back to the answer: every answer can be read off its numbers and values, so no two answers have the same. For the
 -- numbers themselves, Back.antt of crate laws.
-use Rattle.std.specs.Prelude.{ℕ, ◌≡◌, refl, get_or, eqb}
+use Rattle.std.specs.Prelude.{ℕ, ◌≡◌, refl, get_or, eqb, Option, Some, None, Result, Ok, Err}
 use Rattle.std.proofs.Common.{ap, ◌∙◌}
 use Rattle.rules.specs.declared.kind.Kind.TheVariants as K
 use Rattle.rules.specs.declared.kind.Layer.{Layer}
 use Rattle.rules.specs.declared.place.Header.{Header}
+use Rattle.rules.specs.declared.place.Place.{Place}
+use Rattle.rules.specs.declared.stop.Ending.{Ending}
 use Rattle.rules.specs.declared.refusal.Fault.{Fault}
 use Rattle.rules.specs.declared.refusal.Fault.TheVariants as F
 use Rattle.rules.specs.declared.refusal.Refusal.{Refusal}
@@ -18,33 +20,23 @@ use Rattle.rules.specs.Test.{pick, Failure, short, other, Verdict, whole, failed
 use Rattle.rules.specs.Paper.{fault_on_paper, refusal_on_paper}
 use Rattle.rules.specs.Place.{ending_on_paper}
 use Rattle.rules.specs.Walk.{Answer, is, no-more, refusal}
-use Rattle.headers.specs.declared.link.LinkRead.TheVariants as HL
-use Rattle.headers.specs.declared.net.IpRead.TheVariants as HI
-use Rattle.headers.specs.declared.net.ExtRead.TheVariants as HE
-use Rattle.headers.specs.declared.transport.TransportRead.TheVariants as HT
-use Rattle.headers.specs.Says.{link_on_paper, ip_on_paper, ext_on_paper, transport_on_paper}
-use Rattle.one_header.specs.declared.link.LinkAt.TheVariants as AL
-use Rattle.one_header.specs.declared.ip.IpAt.TheVariants as AI
-use Rattle.one_header.specs.declared.ext.ExtAt.TheVariants as AE
-use Rattle.one_header.specs.declared.transport.TransportAt.TheVariants as AT
+use Rattle.headers.specs.Says.{read_on_paper}
 use Rattle.one_header.specs.declared.ip.IpKind.TheVariants as IK
 use Rattle.one_header.specs.declared.link.LinkEnd.TheVariants as Le
 use Rattle.one_header.specs.declared.link.LinkTurn.{LinkTurn}
 use Rattle.one_header.specs.declared.link.LinkTurn.TheVariants as Lt
+use Rattle.one_header.specs.declared.transport.TransportKind.TheVariants as TK
 use Rattle.one_header.specs.declared.transport.TransportTurn.{TransportTurn}
 use Rattle.one_header.specs.declared.transport.TransportTurn.TheVariants as TT
-use Rattle.one_header.specs.At.{Placed, link_at_on_paper, ip_at_on_paper, ext_at_on_paper, transport_at_on_paper}
+use Rattle.one_header.specs.At.{Placed, at_on_paper}
 use Rattle.one_header.specs.At as A
 use Rattle.one_header.specs.Turns.{link_turn_on_paper, transport_turn_on_paper}
-use Rattle.slicer.specs.declared.packet.Outcome.{Outcome}
-use Rattle.slicer.specs.declared.packet.Outcome.TheVariants as O
-use Rattle.steps.specs.declared.list.HeaderAnswer.{HeaderAnswer}
-use Rattle.steps.specs.declared.list.HeaderAnswer.TheVariants as H
-use Rattle.steps.specs.declared.list.CountAnswer.{CountAnswer}
-use Rattle.steps.specs.declared.list.CountAnswer.TheVariants as C
 use Rattle.steps.specs.declared.place.Step.{Step}
 use Rattle.steps.specs.declared.place.Step.TheVariants as N
-use Rattle.slicer.specs.Reply.{Ended, accepted, refused, outcome_on_paper, packet_on_paper}
+use Rattle.steps.specs.declared.place.NoStep.{NoStep}
+use Rattle.steps.specs.declared.place.NoStep.TheVariants as NS
+use Rattle.slicer.specs.declared.packet.SlicedPacket.{SlicedPacket}
+use Rattle.slicer.specs.Reply.{Reply, Ended, accepted, refused, packet_on_paper}
 use Rattle.steps.specs.Lists.{header_on_paper, count_on_paper}
 use Rattle.steps.specs.Places.{Stepped, step_on_paper, place_back}
 use Rattle.steps.specs.Places as P
@@ -101,47 +93,23 @@ fault_back = record { back = fault_of; same = fault_same }
 
 -- ---- the readers' answers
 
-read_off : {A B : Type 0} → (A → B) → (Fault → B) → Verdict A → B
-read_off w r (whole x) = w x
-read_off w r (failed f) = r (fault_of f)
+verdict_off : {A : Type 0} → Verdict A → Result A Fault
+verdict_off (whole x) = Ok x
+verdict_off (failed f) = Err (fault_of f)
 
-pub link_back : Back link_on_paper
-unfolding read_off
-link_back = record { back = read_off HL.Whole HL.Refused; same = elim [ HL.Whole x ↦ refl | HL.Refused f ↦ ap HL.Refused (fault_same f) ] }
-
-pub ip_back : Back ip_on_paper
-unfolding read_off
-ip_back = record { back = read_off HI.Whole HI.Refused; same = elim [ HI.Whole x ↦ refl | HI.Refused f ↦ ap HI.Refused (fault_same f) ] }
-
-pub ext_back : Back ext_on_paper
-unfolding read_off
-ext_back = record { back = read_off HE.Whole HE.Refused; same = elim [ HE.Whole x ↦ refl | HE.Refused f ↦ ap HE.Refused (fault_same f) ] }
-
-pub transport_back : Back transport_on_paper
-unfolding read_off
-transport_back = record { back = read_off HT.Whole HT.Refused; same = elim [ HT.Whole x ↦ refl | HT.Refused f ↦ ap HT.Refused (fault_same f) ] }
+pub read_back : {A : Type 0} → Back (read_on_paper {A = A})
+unfolding verdict_off
+read_back = record { back = verdict_off; same = elim [ Ok x ↦ refl | Err f ↦ ap Err (fault_same f) ] }
 
 -- ---- the same at a place
 
-place_off : {A B : Type 0} → (A → B) → (Refusal → B) → Placed A → B
-place_off w r (A.here x) = w x
-place_off w r (A.refused q) = r (refusal_of q)
+place_off : {A : Type 0} → Placed A → Result A Refusal
+place_off (A.here x) = Ok x
+place_off (A.refused q) = Err (refusal_of q)
 
-pub link_at_back : Back link_at_on_paper
+pub at_back : {A : Type 0} → Back (at_on_paper {A = A})
 unfolding place_off
-link_at_back = record { back = place_off AL.Whole AL.Refused; same = elim [ AL.Whole x ↦ refl | AL.Refused q ↦ ap AL.Refused (refusal_same q) ] }
-
-pub ip_at_back : Back ip_at_on_paper
-unfolding place_off
-ip_at_back = record { back = place_off AI.Whole AI.Refused; same = elim [ AI.Whole x ↦ refl | AI.Refused q ↦ ap AI.Refused (refusal_same q) ] }
-
-pub ext_at_back : Back ext_at_on_paper
-unfolding place_off
-ext_at_back = record { back = place_off AE.Whole AE.Refused; same = elim [ AE.Whole x ↦ refl | AE.Refused q ↦ ap AE.Refused (refusal_same q) ] }
-
-pub transport_at_back : Back transport_at_on_paper
-unfolding place_off
-transport_at_back = record { back = place_off AT.Whole AT.Refused; same = elim [ AT.Whole x ↦ refl | AT.Refused q ↦ ap AT.Refused (refusal_same q) ] }
+at_back = record { back = place_off; same = elim [ Ok x ↦ refl | Err q ↦ ap Err (refusal_same q) ] }
 
 -- ---- where a number leads
 
@@ -164,13 +132,13 @@ pub link_turn_back : Back link_turn_on_paper
 link_turn_back = record { back = link_turn_of; same = link_turn_same }
 
 transport_turn_of : Turn → TransportTurn
-transport_turn_of (U.Opens k) = pick (eqb (kind_number k) (kind_number K.Udp)) TT.Udp TT.Tcp
+transport_turn_of (U.Opens k) = TT.Opens (pick (eqb (kind_number k) (kind_number K.Udp)) TK.Udp TK.Tcp)
 transport_turn_of (U.Stops stop) = TT.Stops stop
-transport_turn_of U.LateHopByHop = TT.Udp
+transport_turn_of U.LateHopByHop = TT.Opens TK.Udp
 
 pub transport_turn_back : Back transport_turn_on_paper
 unfolding transport_turn_of
-transport_turn_back = record { back = transport_turn_of; same = elim [ TT.Udp ↦ refl | TT.Tcp ↦ refl | TT.Stops stop ↦ refl ] }
+transport_turn_back = record { back = transport_turn_of; same = elim [ TT.Opens TK.Udp ↦ refl | TT.Opens TK.Tcp ↦ refl | TT.Stops stop ↦ refl ] }
 
 -- ---- the slicer's answers
 
@@ -181,52 +149,53 @@ ending_back =
       same = λ e i. record { payload = e.payload; number = e.number; stop = stop_back.same e.stop i };
     }
 
-outcome_of : Ended → Outcome
-outcome_of (accepted x) = O.Accepted (ending_back.back x)
-outcome_of (refused r) = O.Refused (refusal_of r)
-
-pub outcome_back : Back outcome_on_paper
-unfolding outcome_of
-outcome_back = record { back = outcome_of; same = elim [ O.Accepted e ↦ ap O.Accepted (ending_back.same e) | O.Refused q ↦ ap O.Refused (refusal_same q) ] }
-
 -- the unused slots of the tags included
-pub packet_back : Back packet_on_paper
-packet_back =
-    record {
-      back = λ p. record { tags = p.tags; count = p.count; net = p.net; link = p.link; transport = p.transport; outcome = outcome_back.back p.ended };
-      same = λ p i. record { tags = p.tags; count = p.count; net = p.net; link = p.link; transport = p.transport; outcome = outcome_back.same p.outcome i };
-    }
+packet_of : Reply → Result SlicedPacket Refusal
+packet_of p = go p.ended
+  where
+    go : Ended → Result SlicedPacket Refusal
+    go (accepted x) = Ok (record { tags = p.tags; count = p.count; net = p.net; link = p.link; transport = p.transport; ending = ending_back.back x })
+    go (refused r) = Err (refusal_of r)
 
-header_answer : Answer Header → HeaderAnswer
-header_answer (is h) = H.Is h
-header_answer no-more = H.NoMore
-header_answer (refusal r) = H.Refused (refusal_of r)
+packet_same : (r : Result SlicedPacket Refusal) → packet_of (packet_on_paper r) ≡ r
+unfolding packet_of
+packet_same (Ok p) =
+    ap (λ (e : Ending). Ok (record { tags = p.tags; count = p.count; net = p.net; link = p.link; transport = p.transport; ending = e })) (ending_back.same p.ending)
+packet_same (Err q) = ap Err (refusal_same q)
+
+pub packet_back : Back packet_on_paper
+packet_back = record { back = packet_of; same = packet_same }
+
+header_answer : Answer Header → Result (Option Header) Refusal
+header_answer (is h) = Ok (Some h)
+header_answer no-more = Ok None
+header_answer (refusal r) = Err (refusal_of r)
 
 pub header_back : Back header_on_paper
 unfolding header_answer
-header_back = record { back = header_answer; same = elim [ H.Is h ↦ refl | H.NoMore ↦ refl | H.Refused q ↦ ap H.Refused (refusal_same q) ] }
+header_back = record { back = header_answer; same = elim [ Ok (Some h) ↦ refl | Ok None ↦ refl | Err q ↦ ap Err (refusal_same q) ] }
 
-count_answer : Answer ℕ → CountAnswer
-count_answer (is n) = C.Is n
-count_answer no-more = C.Is 0
-count_answer (refusal r) = C.Refused (refusal_of r)
+count_answer : Answer ℕ → Result ℕ Refusal
+count_answer (is n) = Ok n
+count_answer no-more = Ok 0
+count_answer (refusal r) = Err (refusal_of r)
 
 pub count_back : Back count_on_paper
 unfolding count_answer
-count_back = record { back = count_answer; same = elim [ C.Is n ↦ refl | C.Refused q ↦ ap C.Refused (refusal_same q) ] }
+count_back = record { back = count_answer; same = elim [ Ok n ↦ refl | Err q ↦ ap Err (refusal_same q) ] }
 
-step_of : Stepped → Step
-step_of (P.on len p) = N.Next len (place_back.back p)
-step_of (P.last len x) = N.Last len (ending_back.back x)
-step_of (P.refused r) = N.Refused (refusal_of r)
-step_of P.not_a_place = N.NotAPlace
+step_of : Stepped → Result Step NoStep
+step_of (P.on len p) = Ok (N.Next len (place_back.back p))
+step_of (P.last len x) = Ok (N.Last len (ending_back.back x))
+step_of (P.refused r) = Err (NS.Refused (refusal_of r))
+step_of P.not_a_place = Err NS.NotAPlace
 
-step_same : (a : Step) → step_of (step_on_paper a) ≡ a
+step_same : (a : Result Step NoStep) → step_of (step_on_paper a) ≡ a
 unfolding step_of
-step_same (N.Next len p) = ap (N.Next len) (place_back.same p)
-step_same (N.Last len e) = ap (N.Last len) (ending_back.same e)
-step_same (N.Refused q) = ap N.Refused (refusal_same q)
-step_same N.NotAPlace = refl
+step_same (Ok (N.Next len p)) = ap (λ (q : Place). Ok (N.Next len q)) (place_back.same p)
+step_same (Ok (N.Last len e)) = ap (λ (x : Ending). Ok (N.Last len x)) (ending_back.same e)
+step_same (Err (NS.Refused q)) = ap (λ (r : Refusal). Err (NS.Refused r)) (refusal_same q)
+step_same (Err NS.NotAPlace) = refl
 
 pub step_back : Back step_on_paper
 step_back = record { back = step_of; same = step_same }

@@ -11,8 +11,6 @@ use Rattle.laws.specs.Gather.{listed}
 use Rattle.laws.specs.Openings.{Asks}
 use Rattle.laws.specs.Walks.{nth_past}
 use Rattle.slicer.specs.Reply.{nothing, slice_way, accepted_by, no_header}
-use Rattle.exports.specs.declared.Chosen.{Chosen}
-use Rattle.exports.specs.declared.Chosen.TheVariants as C
 use Rattle.exports.specs.declared.handed.Packet.{Packet}
 use Rattle.exports.specs.declared.handed.HeaderReply.{HeaderReply}
 use Rattle.exports.specs.declared.handed.CountReply.{CountReply}
@@ -76,7 +74,7 @@ breaks_ask entry s r b = frame_asks_for_more entry s b.1
 clash : {A : Type 0} {m n : ℕ} → m ≡ n → (m ≡ n → ⊥) → A
 clash e f = absurd (f e)
 
-module _ (entry : Entry) (s : List ℕ) (r : Packet) (e : r ≡ slice_for (C.Is entry) s) where
+module _ (entry : Entry) (s : List ℕ) (r : Packet) (e : r ≡ slice_for (Some entry) s) where
   has_chain : r.status ≡ there → (hs : List HeaderAt) × (x : Stopped) × HasChain entry s hs x
   has_chain o = go (walked entry s)
     where
@@ -122,7 +120,7 @@ nth-told hs k o = go (nth (map header hs) k) refl o
     go no-more w o = clash o (λ z. omega arith)
     go (refusal q) w o = nth_not hs k (sym w)
 
-module _ (entry : Entry) (s : List ℕ) (k : ℕ) (r : HeaderReply) (e : r ≡ header_for (C.Is entry) s k) where
+module _ (entry : Entry) (s : List ℕ) (k : ℕ) (r : HeaderReply) (e : r ≡ header_for (Some entry) s k) where
   given_header : {hs : List HeaderAt} {x : Stopped} → HasChain entry s hs x → r ≡ header_by (nth (map header hs) k)
   given_header c = e ∙ ap header_by (chain_header entry s c k)
 
@@ -157,7 +155,7 @@ module _ (entry : Entry) (s : List ℕ) (k : ℕ) (r : HeaderReply) (e : r ≡ h
         asks_for_more = λ o. breaks_ask entry s r.refusal (header_broken o);
       }
 
-module _ (entry : Entry) (s : List ℕ) (r : CountReply) (e : r ≡ count_for (C.Is entry) s) where
+module _ (entry : Entry) (s : List ℕ) (r : CountReply) (e : r ≡ count_for (Some entry) s) where
   given_count : {hs : List HeaderAt} {x : Stopped} → HasChain entry s hs x → r ≡ count_reply there (length hs) no_row
   given_count c = e ∙ ap count_answer_by (chain_count entry s c)
 
@@ -190,18 +188,18 @@ module _ (entry : Entry) (s : List ℕ) (r : CountReply) (e : r ≡ count_for (C
 
 -- ---- by the entry's number, as the exports are asked
 
-module _ (c : Chosen) (s : List ℕ) where
-  pub packet-by : (r : Packet) → r ≡ slice_for c s → (e : Entry) → c ≡ C.Is e → PacketTells e s r
-  packet-by r h e q = packet-tells e s r (h ∙ ap (λ (x : Chosen). slice_for x s) q)
+module _ (c : Option Entry) (s : List ℕ) where
+  pub packet-by : (r : Packet) → r ≡ slice_for c s → (e : Entry) → c ≡ Some e → PacketTells e s r
+  packet-by r h e q = packet-tells e s r (h ∙ ap (λ (x : Option Entry). slice_for x s) q)
 
-  pub header-by : (k : ℕ) (r : HeaderReply) → r ≡ header_for c s k → (e : Entry) → c ≡ C.Is e → HeaderTells e s k r
-  header-by k r h e q = header-tells e s k r (h ∙ ap (λ (x : Chosen). header_for x s k) q)
+  pub header-by : (k : ℕ) (r : HeaderReply) → r ≡ header_for c s k → (e : Entry) → c ≡ Some e → HeaderTells e s k r
+  header-by k r h e q = header-tells e s k r (h ∙ ap (λ (x : Option Entry). header_for x s k) q)
 
-  pub count_by : (r : CountReply) → r ≡ count_for c s → (e : Entry) → c ≡ C.Is e → CountTells e s r
-  count_by r h e q = count_tells e s r (h ∙ ap (λ (x : Chosen). count_for x s) q)
+  pub count_by : (r : CountReply) → r ≡ count_for c s → (e : Entry) → c ≡ Some e → CountTells e s r
+  count_by r h e q = count_tells e s r (h ∙ ap (λ (x : Option Entry). count_for x s) q)
 
-  pub list_by : (k n : ℕ) (after : List ℕ) → after ≡ list_for c s k n → (e : Entry) → c ≡ C.Is e → ListInOrder e s k n after
-  list_by k n after h e q = list_in_order e s k n after (h ∙ ap (λ (x : Chosen). list_for x s k n) q)
+  pub list_by : (k n : ℕ) (after : List ℕ) → after ≡ list_for c s k n → (e : Entry) → c ≡ Some e → ListInOrder e s k n after
+  list_by k n after h e q = list_in_order e s k n after (h ∙ ap (λ (x : Option Entry). list_for x s k n) q)
 
 -- ---- bhirkulom_option, for the bytes s and the place k: a listed option lies inside; a refusal's offset is inside, and stays at every later place
 

@@ -2,6 +2,7 @@
 -- "a made-up header count (it is the chain's length)": count_is_length; the headers as numbers: list_in_order. For each entry.
 use Rattle.std.specs.Prelude.{ℕ, zero, suc, ◌≤◌, ◌<◌, ◌+◌, ◌-◌, ◌≡◌, refl, List, [], ◌∷◌, map, length}
 use Rattle.std.proofs.Common.{sym, ap, ◌∙◌, arith}
+use Rattle.rules.specs.declared.refusal.Refusal.{Refusal}
 use Rattle.rules.specs.declared.place.Header.{Header}
 use Rattle.rules.specs.declared.place.Place.{Place}
 use Rattle.rules.specs.Place.{Stopped, bytes}
@@ -9,10 +10,6 @@ use Rattle.rules.specs.Walk.{Trace, HeaderAt, header, is, no-more, nth, header_o
 use Rattle.laws.specs.Kinds.{sized}
 use Rattle.laws.specs.Walks.{nth_past}
 use Rattle.rules.specs.declared.entry.Entry.{Entry}
-use Rattle.steps.specs.declared.list.HeaderAnswer.{HeaderAnswer}
-use Rattle.steps.specs.declared.list.HeaderAnswer.TheVariants as H
-use Rattle.steps.specs.declared.list.CountAnswer.{CountAnswer}
-use Rattle.steps.specs.declared.list.CountAnswer.TheVariants as C
 use Rattle.laws.specs.Zeros.{zeros}
 use Rattle.rules.specs.declared.refusal.Row.{Row}
 use Rattle.steps.specs.Lists.{header_on_paper, count_on_paper, written_from}
@@ -33,15 +30,15 @@ ChainOfLength entry s n = (hs : List HeaderAt) × (x : Stopped) × HasChain entr
 
 -- what is said of an answer r for header k: number k of the chain, with its kind, offset and length; behind the last one no more;
 -- and a header is answered only from a chain, at its number
-pub record HeadersInOrder (entry : Entry) (s : List ℕ) (k : ℕ) (r : HeaderAnswer) : Type 0 where
-  pub in_order : (hs : List HeaderAt) (x : Stopped) (e : HeaderAt) → HasChain entry s hs x → At hs k e → r ≡ H.Is (header e)
-  pub then_no_more : (hs : List HeaderAt) (x : Stopped) → HasChain entry s hs x → length hs ≤ k → r ≡ H.NoMore
-  pub from_chain : (h : Header) → r ≡ H.Is h → FromChain entry s k h
+pub record HeadersInOrder (entry : Entry) (s : List ℕ) (k : ℕ) (r : Result (Option Header) Refusal) : Type 0 where
+  pub in_order : (hs : List HeaderAt) (x : Stopped) (e : HeaderAt) → HasChain entry s hs x → At hs k e → r ≡ Ok (Some (header e))
+  pub then_no_more : (hs : List HeaderAt) (x : Stopped) → HasChain entry s hs x → length hs ≤ k → r ≡ Ok None
+  pub from_chain : (h : Header) → r ≡ Ok (Some h) → FromChain entry s k h
 
 -- what is said of a count r: the chain's length, and only that of a chain
-pub record CountIsLength (entry : Entry) (s : List ℕ) (r : CountAnswer) : Type 0 where
-  pub is_length : (hs : List HeaderAt) (x : Stopped) → HasChain entry s hs x → r ≡ C.Is (length hs)
-  pub from_chain : (n : ℕ) → r ≡ C.Is n → ChainOfLength entry s n
+pub record CountIsLength (entry : Entry) (s : List ℕ) (r : Result ℕ Refusal) : Type 0 where
+  pub is_length : (hs : List HeaderAt) (x : Stopped) → HasChain entry s hs x → r ≡ Ok (length hs)
+  pub from_chain : (n : ℕ) → r ≡ Ok n → ChainOfLength entry s n
 
 -- ---- header 0, 1, 2 and so on
 
@@ -49,25 +46,25 @@ pub at_nth : {hs : List HeaderAt} {k : ℕ} {e : HeaderAt} → At hs k e → nth
 at_nth here = refl
 at_nth (later a) = at_nth a
 
-is_it : (a : HeaderAnswer) {h : Header} → header_on_paper a ≡ is h → a ≡ H.Is h
-is_it (H.Is h) e = cc
-is_it H.NoMore e = cc
-is_it (H.Refused r) e = cc
+is_it : (a : Result (Option Header) Refusal) {h : Header} → header_on_paper a ≡ is h → a ≡ Ok (Some h)
+is_it (Ok (Some h)) e = cc
+is_it (Ok None) e = cc
+is_it (Err r) e = cc
 
-is_no_more : (a : HeaderAnswer) → header_on_paper a ≡ no-more → a ≡ H.NoMore
-is_no_more (H.Is h) e = cc
-is_no_more H.NoMore e = refl
-is_no_more (H.Refused r) e = cc
+is_no_more : (a : Result (Option Header) Refusal) → header_on_paper a ≡ no-more → a ≡ Ok None
+is_no_more (Ok (Some h)) e = cc
+is_no_more (Ok None) e = refl
+is_no_more (Err r) e = cc
 
-is_count : (a : CountAnswer) {n : ℕ} → count_on_paper a ≡ is n → a ≡ C.Is n
-is_count (C.Is n) e = cc
-is_count (C.Refused r) e = cc
+is_count : (a : Result ℕ Refusal) {n : ℕ} → count_on_paper a ≡ is n → a ≡ Ok n
+is_count (Ok n) e = cc
+is_count (Err r) e = cc
 
-listed_as : (entry : Entry) (s : List ℕ) {hs : List HeaderAt} {x : Stopped} (k : ℕ) (r : HeaderAnswer) → HasChain entry s hs x → HeaderIs entry s k r
+listed_as : (entry : Entry) (s : List ℕ) {hs : List HeaderAt} {x : Stopped} (k : ℕ) (r : Result (Option Header) Refusal) → HasChain entry s hs x → HeaderIs entry s k r
     → header_on_paper r ≡ nth (map header hs) k
 listed_as entry s k r c e = e ∙ chain_header entry s c k
 
-counted_as : (entry : Entry) (s : List ℕ) {hs : List HeaderAt} {x : Stopped} (r : CountAnswer) → HasChain entry s hs x → CountIs entry s r
+counted_as : (entry : Entry) (s : List ℕ) {hs : List HeaderAt} {x : Stopped} (r : Result ℕ Refusal) → HasChain entry s hs x → CountIs entry s r
     → count_on_paper r ≡ is (length hs)
 counted_as entry s r c e = e ∙ chain_count entry s c
 
@@ -101,7 +98,7 @@ at_of [] k q = let w : ◌≡◌ {A = ℕ} 0 1 = cc in absurd (omega arith)
 at_of (e ∷ hs) zero q = (e, here, cc)
 at_of (e ∷ hs) (suc k) q = let z = at_of hs k q in (z.0, later z.1, z.2)
 
-header→chain : (entry : Entry) (s : List ℕ) (k : ℕ) (r : HeaderAnswer) (h : Header) → HeaderIs entry s k r → r ≡ H.Is h → FromChain entry s k h
+header→chain : (entry : Entry) (s : List ℕ) (k : ℕ) (r : Result (Option Header) Refusal) (h : Header) → HeaderIs entry s k r → r ≡ Ok (Some h) → FromChain entry s k h
 unfolding header_of
 header→chain entry s k r h q o = go (walked entry s) (sym (ap header_on_paper o) ∙ q)
   where
@@ -109,7 +106,7 @@ header→chain entry s k r h q o = go (walked entry s) (sym (ap header_on_paper 
     go (whole_walk {hs} {x} c) y = let z = at_of hs k (sym y) in (hs, x, z.0, c, z.1, z.2)
     go (broken_walk b) y = let w : ◌≡◌ {A = ℕ} 0 1 = cc in absurd (omega arith)
 
-count→chain : (entry : Entry) (s : List ℕ) (r : CountAnswer) (n : ℕ) → CountIs entry s r → r ≡ C.Is n → ChainOfLength entry s n
+count→chain : (entry : Entry) (s : List ℕ) (r : Result ℕ Refusal) (n : ℕ) → CountIs entry s r → r ≡ Ok n → ChainOfLength entry s n
 unfolding count_of
 count→chain entry s r n q o = go (walked entry s) (sym (ap count_on_paper o) ∙ q)
   where
@@ -119,7 +116,7 @@ count→chain entry s r n q o = go (walked entry s) (sym (ap count_on_paper o) �
 
 -- ---- every answer of `header` and of `count` is so
 
-pub headers_in_order : (entry : Entry) (s : List ℕ) (k : ℕ) (r : HeaderAnswer) → HeaderIs entry s k r → HeadersInOrder entry s k r
+pub headers_in_order : (entry : Entry) (s : List ℕ) (k : ℕ) (r : Result (Option Header) Refusal) → HeaderIs entry s k r → HeadersInOrder entry s k r
 headers_in_order entry s k r q =
     record {
       in_order = λ hs x e c a. is_it r (listed_as entry s k r c q ∙ at_nth a);
@@ -127,7 +124,7 @@ headers_in_order entry s k r q =
       from_chain = λ h o. header→chain entry s k r h q o;
     }
 
-pub count_is_length : (entry : Entry) (s : List ℕ) (r : CountAnswer) → CountIs entry s r → CountIsLength entry s r
+pub count_is_length : (entry : Entry) (s : List ℕ) (r : Result ℕ Refusal) → CountIs entry s r → CountIsLength entry s r
 count_is_length entry s r q =
     record {
       is_length = λ hs x c. is_count r (counted_as entry s r c q);

@@ -1,6 +1,6 @@
 -- Document 01: "These idle versions have to be caught". Each is ruled out by demand 3's statement itself, for each
 -- entry, shown on a frame or two.
-use Rattle.std.specs.Prelude.{ℕ, ◌≡◌, List, [], ◌∷◌, ◌++◌}
+use Rattle.std.specs.Prelude.{ℕ, ◌≡◌, List, [], ◌∷◌, ◌++◌, Option, Some, None, Result, Ok, Err}
 use Rattle.std.proofs.Common.{arith}
 use Rattle.rules.specs.declared.place.Header.{Header}
 use Rattle.rules.specs.declared.refusal.Refusal.{Refusal}
@@ -11,16 +11,12 @@ use Rattle.rules.specs.Walk.{HeaderAt, walk, trace, slices}
 use Rattle.rules.specs.declared.entry.Entry.{Entry}
 use Rattle.rules.specs.declared.entry.Entry.TheVariants as E
 use Rattle.rules.specs.declared.stop.Ending.{Ending}
-use Rattle.slicer.specs.declared.packet.Outcome.{Outcome}
-use Rattle.slicer.specs.declared.packet.Outcome.TheVariants as O
 use Rattle.slicer.specs.declared.packet.SlicedPacket.{SlicedPacket}
-use Rattle.steps.specs.declared.list.HeaderAnswer.{HeaderAnswer}
-use Rattle.steps.specs.declared.list.HeaderAnswer.TheVariants as H
-use Rattle.steps.specs.declared.list.CountAnswer.TheVariants as C
 use Rattle.chain.specs.Chain.{here, later}
 use Rattle.chain.specs.Walked.{means_of}
 use Rattle.chain.specs.OneChain.{not_both_of}
 use Rattle.chain.specs.Frames.{zeros, two, ethernet, tag, ipv4, ipv6, tcp}
+use Rattle.chain.specs.Answers.{outcome}
 use Rattle.chain.specs.Accepted.{HasChain, AcceptedIffChain}
 use Rattle.chain.specs.Headers.{HeadersInOrder, CountIsLength}
 
@@ -70,46 +66,46 @@ walks E.Ipv6 = (
 
 -- ---- "one that refuses everything (demand 3: a frame with a chain is accepted)"
 
-pub refuses_everything : (entry : Entry) (slice : List ℕ → SlicedPacket) → ((s : List ℕ) → (q : Refusal) × ((slice s).outcome ≡ O.Refused q))
-    → ((s : List ℕ) → AcceptedIffChain entry s (slice s).outcome) → ⊥
+pub refuses_everything : (entry : Entry) (slice : List ℕ → Result SlicedPacket Refusal) → ((s : List ℕ) → (q : Refusal) × (outcome (slice s) ≡ Err q))
+    → ((s : List ℕ) → AcceptedIffChain entry s (outcome (slice s))) → ⊥
 refuses_everything entry slice idle true_of =
     let a = (true_of (large entry)).accepts _ _ (walks entry).2.4 in
-    differ (slice (large entry)).outcome a.1 (idle (large entry)).1
+    differ (outcome (slice (large entry))) a.1 (idle (large entry)).1
   where
-    differ : (o : Outcome) {e : Ending} {q : Refusal} → o ≡ O.Accepted e → o ≡ O.Refused q → ⊥
+    differ : (o : Result Ending Refusal) {e : Ending} {q : Refusal} → o ≡ Ok e → o ≡ Err q → ⊥
     differ o a b = let z : ◌≡◌ {A = ℕ} 0 1 = cc in omega arith
 
 -- ---- "one fixed reply .. (demand 3's list, over demand 2's header rules)": accepted once, it would accept a frame with no chain
 
-pub one_fixed_reply : (entry : Entry) (r : SlicedPacket) → ((s : List ℕ) → AcceptedIffChain entry s r.outcome) → ⊥
+pub one_fixed_reply : (entry : Entry) (r : Result SlicedPacket Refusal) → ((s : List ℕ) → AcceptedIffChain entry s (outcome r)) → ⊥
 one_fixed_reply entry r true_of =
     let a = (true_of (large entry)).accepts _ _ (walks entry).2.4 in
     (walks entry).0 _ _ ((true_of (short entry)).chained a.0 a.1).1
 
 -- ---- "one that lists no header"
 
-pub lists_no_header : (entry : Entry) (header : List ℕ → ℕ → HeaderAnswer) → ((s : List ℕ) (k : ℕ) (h : Header) → header s k ≡ H.Is h → ⊥)
+pub lists_no_header : (entry : Entry) (header : List ℕ → ℕ → Result (Option Header) Refusal) → ((s : List ℕ) (k : ℕ) (h : Header) → header s k ≡ Ok (Some h) → ⊥)
     → ((s : List ℕ) (k : ℕ) → HeadersInOrder entry s k (header s k)) → ⊥
 lists_no_header entry header idle true_of =
     idle (large entry) 0 _ ((true_of (large entry) 0).in_order _ _ _ (walks entry).2.4 here)
 
 -- ---- "one that hands out the whole list for header 0 and "no more" after (demand 3: each once, at its place)"
 
-pub whole_list_for_header_0 : (entry : Entry) (header : List ℕ → ℕ → HeaderAnswer) → ((s : List ℕ) → header s 1 ≡ H.NoMore)
+pub whole_list_for_header_0 : (entry : Entry) (header : List ℕ → ℕ → Result (Option Header) Refusal) → ((s : List ℕ) → header s 1 ≡ Ok None)
     → ((s : List ℕ) (k : ℕ) → HeadersInOrder entry s k (header s k)) → ⊥
 whole_list_for_header_0 entry header idle true_of =
     differ (header (large entry) 1) ((true_of (large entry) 1).in_order _ _ _ (walks entry).2.4 (later here)) (idle (large entry))
   where
-    differ : (a : HeaderAnswer) {h : Header} → a ≡ H.Is h → a ≡ H.NoMore → ⊥
+    differ : (a : Result (Option Header) Refusal) {h : Header} → a ≡ Ok (Some h) → a ≡ Ok None → ⊥
     differ a e f = let z : ◌≡◌ {A = ℕ} 0 1 = cc in omega arith
 
 -- ---- "a made-up header count (it is the chain's length)": one that does not go by the frame
 
-pub made_up_count : (entry : Entry) (n : ℕ) → ((s : List ℕ) → CountIsLength entry s (C.Is n)) → ⊥
+pub made_up_count : (entry : Entry) (n : ℕ) → ((s : List ℕ) → CountIsLength entry s (Ok n)) → ⊥
 made_up_count entry n true_of =
     let a = is_it ((true_of (small entry)).is_length _ _ (walks entry).1.2) in
     let b = is_it ((true_of (large entry)).is_length _ _ (walks entry).2.4) in
     omega (arith, a, b)
   where
-    is_it : {m k : ℕ} → C.Is m ≡ C.Is k → m ≡ k
+    is_it : {m k : ℕ} → ◌≡◌ {A = Result ℕ Refusal} (Ok m) (Ok k) → m ≡ k
     is_it e = cc

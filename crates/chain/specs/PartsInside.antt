@@ -1,6 +1,7 @@
 -- Every part that a reply tells of an accepted frame lies in the frame: a caller may take its bytes unasked.
 use Rattle.std.specs.Prelude.{ℕ, zero, suc, ◌+◌, ◌≤◌, ◌≡◌, refl, List, [], ◌∷◌, ◌++◌, Bool, length}
 use Rattle.std.proofs.Common.{sym, subst, arith}
+use Rattle.slicer.specs.declared.packet.IpPart.{IpPart}
 use Rattle.rules.specs.declared.entry.Entry.{Entry}
 use Rattle.rules.specs.declared.kind.Kind.{Kind}
 use Rattle.rules.specs.declared.kind.Kind.TheVariants as K
@@ -9,12 +10,6 @@ use Rattle.rules.specs.declared.place.Range.{Range}
 use Rattle.rules.specs.Place.{Stopped}
 use Rattle.rules.specs.Walk.{HeaderAt, header}
 use Rattle.laws.specs.Gather.{listed}
-use Rattle.slicer.specs.declared.packet.LinkPart.{LinkPart}
-use Rattle.slicer.specs.declared.packet.LinkPart.TheVariants as L
-use Rattle.slicer.specs.declared.packet.NetPart.{NetPart}
-use Rattle.slicer.specs.declared.packet.NetPart.TheVariants as N
-use Rattle.slicer.specs.declared.packet.TransportPart.{TransportPart}
-use Rattle.slicer.specs.declared.packet.TransportPart.TheVariants as T
 use Rattle.slicer.specs.Reply.{Parts, nothing, no_header, put, extended, slots, slice_way, Reply, Ended, accepted, refused, reply_of}
 use Rattle.chain.specs.Chain.{ChainOf, At, here, later}
 use Rattle.chain.specs.Inside.{header_inside, payload_inside}
@@ -28,21 +23,21 @@ HeaderIn n h = h.at + h.len ≤ n
 abbrev pub RangeIn : ℕ → Range → Type 0
 RangeIn n x = x.at + x.len ≤ n
 
-abbrev pub LinkIn : ℕ → LinkPart → Type 0
-LinkIn n L.Nothing = Unit
-LinkIn n (L.Ethernet2 h) = HeaderIn n h
+abbrev pub LinkIn : ℕ → Option Header → Type 0
+LinkIn n None = Unit
+LinkIn n (Some h) = HeaderIn n h
 
 pub data AllIn (n : ℕ) : List Header → Type 0 where
   none : AllIn n []
   one : {h : Header} {l : List Header} → HeaderIn n h → AllIn n l → AllIn n (h ∷ l)
 
-abbrev pub NetIn : ℕ → NetPart → Type 0
-NetIn n N.Nothing = Unit
-NetIn n (N.Ip i) = HeaderIn n i.header × RangeIn n i.exts
+abbrev pub NetIn : ℕ → Option IpPart → Type 0
+NetIn n None = Unit
+NetIn n (Some i) = HeaderIn n i.header × RangeIn n i.exts
 
-abbrev pub TransportIn : ℕ → TransportPart → Type 0
-TransportIn n T.Nothing = Unit
-TransportIn n (T.Is h) = HeaderIn n h
+abbrev pub TransportIn : ℕ → Option Header → Type 0
+TransportIn n None = Unit
+TransportIn n (Some h) = HeaderIn n h
 
 abbrev pub EndIn : ℕ → Ended → Type 0
 EndIn n (accepted x) = x.at + x.len ≤ n
@@ -68,9 +63,9 @@ all_with : {n : ℕ} (h : Header) (l : List Header) → AllIn n l → HeaderIn n
 all_with h [] none k = one {h = h} k none
 all_with h (g ∷ l) (one i a) k = one {h = g} i (all_with h l a k)
 
-net_extended : {n : ℕ} (f : Parts) (t : NetPart) (to : ℕ) (m : Bool) → f.net ≡ t → PartsIn n f → to ≤ n → PartsIn n (extended t f to m)
-net_extended f N.Nothing to m e p k = p
-net_extended {n} f (N.Ip i) to m e p k =
+net_extended : {n : ℕ} (f : Parts) (t : Option IpPart) (to : ℕ) (m : Bool) → f.net ≡ t → PartsIn n f → to ≤ n → PartsIn n (extended t f to m)
+net_extended f None to m e p k = p
+net_extended {n} f (Some i) to m e p k =
     let z = subst (NetIn n) e p.net in
     record { link = p.link; tags = p.tags; net = (z.0, omega (arith, z.1)); transport = p.transport }
 

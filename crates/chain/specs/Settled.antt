@@ -1,9 +1,11 @@
 -- "Each public answer is settled by its input alone, refusals with all that they carry included. Prove that no second answer
 -- satisfies the same contract": a statement for each public function. Of two answers x and y that both satisfy its `ensures`, x ≡ y.
 -- The functions whose contract says `r ≡ value` have theirs in SettledValues.antt. One exception: header_at, below.
-use Rattle.std.specs.Prelude.{ℕ, ◌+◌, ◌-◌, ◌≡◌, Bool, false, List, [], length}
+use Rattle.std.specs.Prelude.{ℕ, ◌+◌, ◌-◌, ◌≡◌, Bool, false, List, [], length, Option, Result, Ok, Err}
 use Rattle.std.proofs.Math.Path.{refl, ap}
 use Rattle.std.proofs.Common.{sym, ◌∙◌, arith}
+use Rattle.rules.specs.declared.place.Range.{Range}
+use Rattle.rules.specs.declared.place.Header.{Header}
 use Rattle.rules.specs.declared.entry.Entry.{Entry}
 use Rattle.rules.specs.declared.kind.Kind.{Kind}
 use Rattle.rules.specs.declared.kind.Kind.TheVariants as K
@@ -22,27 +24,23 @@ use Rattle.rules.specs.Paper.{fault_on_paper, refusal_on_paper}
 use Rattle.rules.specs.Rules.{link, transport}
 use Rattle.rules.specs.Place.{room, Found, Stopped, Follow, halt, follow, reads, refuses}
 use Rattle.rules.specs.Place as W
-use Rattle.headers.specs.declared.link.LinkRead.{LinkRead}
-use Rattle.headers.specs.declared.net.IpRead.{IpRead}
-use Rattle.headers.specs.declared.net.ExtRead.{ExtRead}
-use Rattle.headers.specs.declared.transport.TransportRead.{TransportRead}
-use Rattle.headers.specs.Says.{link_on_paper, link_says, ip_on_paper, ip_says, ext_on_paper, ext_says, raw_says, transport_on_paper, udp_says, tcp_says}
-use Rattle.one_header.specs.declared.link.LinkAt.{LinkAt}
+use Rattle.headers.specs.Says.{read_on_paper, link_says, ip_says, ext_says, raw_says, udp_says, tcp_says}
+use Rattle.one_header.specs.declared.link.LinkKind.{LinkKind}
 use Rattle.one_header.specs.declared.link.LinkTurn.{LinkTurn}
-use Rattle.one_header.specs.declared.ip.IpAt.{IpAt}
-use Rattle.one_header.specs.declared.ext.ExtAt.{ExtAt}
+use Rattle.one_header.specs.declared.ip.IpKind.{IpKind}
+use Rattle.one_header.specs.declared.ip.IpFound.{IpFound}
+use Rattle.one_header.specs.declared.transport.TransportKind.{TransportKind}
+use Rattle.headers.specs.declared.net.IpHeader.{IpHeader}
+use Rattle.headers.specs.declared.net.ExtHeader.{ExtHeader}
+use Rattle.headers.specs.declared.transport.TransportHeader.{TransportHeader}
+use Rattle.rules.specs.declared.ether_type.EtherType.{EtherType}
 use Rattle.one_header.specs.declared.ext.ExtKind.{ExtKind}
-use Rattle.one_header.specs.declared.transport.TransportAt.{TransportAt}
 use Rattle.one_header.specs.declared.transport.TransportTurn.{TransportTurn}
 use Rattle.one_header.specs.declared.header.HeaderFound.{HeaderFound}
-use Rattle.one_header.specs.declared.header.HeaderRead.{HeaderRead}
-use Rattle.one_header.specs.declared.header.HeaderRead.TheVariants as D
-use Rattle.one_header.specs.At.{placing, over, setting, link_at_on_paper, ip_at_on_paper, ext_at_on_paper, transport_at_on_paper}
-use Rattle.one_header.specs.Turns.{ext_kind_of, link_turn_on_paper, transport_turn_on_paper}
+use Rattle.one_header.specs.At.{placing, over, setting, transport_says, at_on_paper}
+use Rattle.one_header.specs.Turns.{link_kind_of, ip_kind_of, sets_of, ext_kind_of, link_turn_on_paper, transport_turn_on_paper}
 use Rattle.one_header.specs.Header.{left_by, found_on_paper, header_read_on_paper, read_part}
 use Rattle.slicer.specs.declared.packet.SlicedPacket.{SlicedPacket}
-use Rattle.slicer.specs.declared.packet.TransportPart.{TransportPart}
-use Rattle.slicer.specs.declared.options.OptionsPart.{OptionsPart}
 use Rattle.slicer.specs.Options.{options_of}
 use Rattle.slicer.specs.Reply.{packet_on_paper, reply_of}
 use Rattle.steps.specs.Places.{same_place}
@@ -54,8 +52,8 @@ use Rattle.tcp_options.specs.Paper.{option_on_paper}
 use Rattle.tcp_options.specs.Settled.{settled}
 use Rattle.chain.specs.Answers.{Sliced, HeaderIs, CountIs, ListIs, FirstIs, StepIs}
 use Rattle.laws.specs.Back.{settled_by, stop_back}
-use Rattle.chain.specs.Back.{refusal-back, link_back, ip_back, ext_back, transport_back}
-use Rattle.chain.specs.Back.{link_at_back, ip_at_back, ext_at_back, transport_at_back, link_turn_back, transport_turn_back}
+use Rattle.chain.specs.Back.{refusal-back, read_back}
+use Rattle.chain.specs.Back.{at_back, link_turn_back, transport_turn_back}
 use Rattle.chain.specs.Back.{packet_back, header_back, count_back, step_back}
 
 -- no two answers satisfy the contract
@@ -73,56 +71,48 @@ fault_at self offset room x y e f = settled_by refusal-back e f
 
 -- ---- crate headers, w the bytes that the reader is handed. Its contracts speak of every IP version v; there is one.
 
-pub read_ethernet2 : (w : List ℕ) → Settles (λ (r : LinkRead). (v : ℕ) → link_on_paper r ≡ link_says K.Ethernet2 v w)
-read_ethernet2 w x y e f = settled_by link_back (e 0) (f 0)
+pub read_ethernet2 : (w : List ℕ) → Settles (λ (r : Result EtherType Fault). (v : ℕ) → read_on_paper r ≡ link_says K.Ethernet2 v w)
+read_ethernet2 w x y e f = settled_by read_back (e 0) (f 0)
 
-pub read_vlan : (w : List ℕ) → Settles (λ (r : LinkRead). (v : ℕ) → link_on_paper r ≡ link_says K.Vlan v w)
-read_vlan w x y e f = settled_by link_back (e 0) (f 0)
+pub read_vlan : (w : List ℕ) → Settles (λ (r : Result EtherType Fault). (v : ℕ) → read_on_paper r ≡ link_says K.Vlan v w)
+read_vlan w x y e f = settled_by read_back (e 0) (f 0)
 
-pub read-ipv4 : (w : List ℕ) → Settles (λ (r : IpRead). (v : ℕ) → ip_on_paper r ≡ ip_says K.Ipv4 v w)
-read-ipv4 w x y e f = settled_by ip_back (e 0) (f 0)
+pub read-ipv4 : (w : List ℕ) → Settles (λ (r : Result IpHeader Fault). (v : ℕ) → read_on_paper r ≡ ip_says K.Ipv4 v w)
+read-ipv4 w x y e f = settled_by read_back (e 0) (f 0)
 
-pub read-ipv6 : (w : List ℕ) → Settles (λ (r : IpRead). (v : ℕ) → ip_on_paper r ≡ ip_says K.Ipv6 v w)
-read-ipv6 w x y e f = settled_by ip_back (e 0) (f 0)
+pub read-ipv6 : (w : List ℕ) → Settles (λ (r : Result IpHeader Fault). (v : ℕ) → read_on_paper r ≡ ip_says K.Ipv6 v w)
+read-ipv6 w x y e f = settled_by read_back (e 0) (f 0)
 
-pub read_auth : (w : List ℕ) → Settles (λ (r : ExtRead). (v : ℕ) → ext_on_paper r ≡ ext_says K.Auth v w)
-read_auth w x y e f = settled_by ext_back (e 0) (f 0)
+pub read_auth : (w : List ℕ) → Settles (λ (r : Result ExtHeader Fault). (v : ℕ) → read_on_paper r ≡ ext_says K.Auth v w)
+read_auth w x y e f = settled_by read_back (e 0) (f 0)
 
-pub read_fragment : (w : List ℕ) → Settles (λ (r : ExtRead). (v : ℕ) → ext_on_paper r ≡ ext_says K.Fragment v w)
-read_fragment w x y e f = settled_by ext_back (e 0) (f 0)
+pub read_fragment : (w : List ℕ) → Settles (λ (r : Result ExtHeader Fault). (v : ℕ) → read_on_paper r ≡ ext_says K.Fragment v w)
+read_fragment w x y e f = settled_by read_back (e 0) (f 0)
 
-pub read_raw_ext : (w : List ℕ) (kind : Kind) → Settles (λ (r : ExtRead). (v : ℕ) → ext_on_paper r ≡ raw_says kind v w)
-read_raw_ext w kind x y e f = settled_by ext_back (e 0) (f 0)
+pub read_raw_ext : (w : List ℕ) (kind : Kind) → Settles (λ (r : Result ExtHeader Fault). (v : ℕ) → read_on_paper r ≡ raw_says kind v w)
+read_raw_ext w kind x y e f = settled_by read_back (e 0) (f 0)
 
-pub read-udp : (w : List ℕ) → Settles (λ (r : TransportRead). (v : ℕ) → transport_on_paper r ≡ udp_says v w)
-read-udp w x y e f = settled_by transport_back (e 0) (f 0)
+pub read-udp : (w : List ℕ) → Settles (λ (r : Result TransportHeader Fault). (v : ℕ) → read_on_paper r ≡ udp_says v w)
+read-udp w x y e f = settled_by read_back (e 0) (f 0)
 
-pub read-tcp : (w : List ℕ) → Settles (λ (r : TransportRead). (v : ℕ) → transport_on_paper r ≡ tcp_says v w)
-read-tcp w x y e f = settled_by transport_back (e 0) (f 0)
+pub read-tcp : (w : List ℕ) → Settles (λ (r : Result TransportHeader Fault). (v : ℕ) → read_on_paper r ≡ tcp_says v w)
+read-tcp w x y e f = settled_by read_back (e 0) (f 0)
 
--- ---- crate one_header: a reader's answer at a place. ext_turn, opens_auth and the methods `kind` and `turn` say `r ≡ ..`.
+-- ---- crate one_header: a reader's answer at a place. ext_turn, opens_auth and what is made by `from` say `r ≡ ..`.
 
 module _ (w : List ℕ) (at : ℕ) (source : RoomSource) where
-  pub ethernet2_at : Settles (λ (r : LinkAt). (v : ℕ) → link_at_on_paper r ≡ placing (link_says K.Ethernet2 v w) at source)
-  ethernet2_at x y e f = settled_by link_at_back (e 0) (f 0)
+  pub link_at : (kind : LinkKind) → Settles (λ (r : Result EtherType Refusal). (v : ℕ) → at_on_paper r ≡ placing (link_says (link_kind_of kind) v w) at source)
+  link_at kind x y e f = settled_by at_back (e 0) (f 0)
 
-  pub vlan_at : Settles (λ (r : LinkAt). (v : ℕ) → link_at_on_paper r ≡ placing (link_says K.Vlan v w) at source)
-  vlan_at x y e f = settled_by link_at_back (e 0) (f 0)
+  pub ip_at : (kind : IpKind) → Settles (λ (r : Result IpFound Refusal). (v : ℕ) → at_on_paper r
+      ≡ placing (over (λ x. setting x (length w) (sets_of kind) source) (ip_says (ip_kind_of kind) v w)) at source)
+  ip_at kind x y e f = settled_by at_back (e 0) (f 0)
 
-  pub ipv4_at : Settles (λ (r : IpAt). (v : ℕ) → ip_at_on_paper r ≡ placing (over (λ x. setting x (length w) S.Ipv4 source) (ip_says K.Ipv4 v w)) at source)
-  ipv4_at x y e f = settled_by ip_at_back (e 0) (f 0)
+  pub ext_at : (kind : ExtKind) → Settles (λ (r : Result ExtHeader Refusal). (v : ℕ) → at_on_paper r ≡ placing (ext_says (ext_kind_of kind) v w) at source)
+  ext_at kind x y e f = settled_by at_back (e 0) (f 0)
 
-  pub ipv6_at : Settles (λ (r : IpAt). (v : ℕ) → ip_at_on_paper r ≡ placing (over (λ x. setting x (length w) S.Ipv6 source) (ip_says K.Ipv6 v w)) at source)
-  ipv6_at x y e f = settled_by ip_at_back (e 0) (f 0)
-
-  pub ext_at : (kind : ExtKind) → Settles (λ (r : ExtAt). (v : ℕ) → ext_at_on_paper r ≡ placing (ext_says (ext_kind_of kind) v w) at source)
-  ext_at kind x y e f = settled_by ext_at_back (e 0) (f 0)
-
-  pub udp_at : Settles (λ (r : TransportAt). (v : ℕ) → transport_at_on_paper r ≡ placing (udp_says v w) at source)
-  udp_at x y e f = settled_by transport_at_back (e 0) (f 0)
-
-  pub tcp_at : Settles (λ (r : TransportAt). (v : ℕ) → transport_at_on_paper r ≡ placing (tcp_says v w) at source)
-  tcp_at x y e f = settled_by transport_at_back (e 0) (f 0)
+  pub transport_at : (kind : TransportKind) → Settles (λ (r : Result TransportHeader Refusal). (v : ℕ) → at_on_paper r ≡ placing (transport_says kind v w) at source)
+  transport_at kind x y e f = settled_by at_back (e 0) (f 0)
 
 -- where a number leads. The contract of a turn speaks of every room with these tags or this mark; there is one.
 any_room : (tags : ℕ) → Bool → Room
@@ -152,11 +142,11 @@ pub record SameFound (x y : HeaderFound) : Type 0 where
   pub number : (stop : Stop) → x.turn ≡ T.Stops stop → x.number ≡ y.number
   pub payload : (stop : Stop) → x.turn ≡ T.Stops stop → x.to - x.len ≡ y.to - y.len
 
-abbrev pub SameRead : HeaderRead → HeaderRead → Type 0
-SameRead (D.Whole x) (D.Whole y) = SameFound x y
-SameRead (D.Refused q) (D.Refused r) = q ≡ r
-SameRead (D.Whole x) (D.Refused r) = ⊥
-SameRead (D.Refused q) (D.Whole y) = ⊥
+abbrev pub SameRead : Result HeaderFound Refusal → Result HeaderFound Refusal → Type 0
+SameRead (Ok x) (Ok y) = SameFound x y
+SameRead (Err q) (Err r) = q ≡ r
+SameRead (Ok x) (Err r) = ⊥
+SameRead (Err q) (Ok y) = ⊥
 
 -- what follows the header, by a turn
 abbrev follows_at : ℕ → Room → HeaderFound → Turn → Follow
@@ -208,7 +198,7 @@ module _ (at : ℕ) (p : Room) (x y : HeaderFound) where
           → (x.number ≡ y.number) × (x.to - x.len ≡ y.to - y.len)
       stopped stop q t e = same_stop stop (ap (follows_at at p x) (sym q) ∙ e ∙ ap (follows_at at p y) (sym t ∙ q))
 
-pub header_at : (w : List ℕ) (kind : Kind) (at : ℕ) (p : Room) (x y : HeaderRead)
+pub header_at : (w : List ℕ) (kind : Kind) (at : ℕ) (p : Room) (x y : Result HeaderFound Refusal)
     → header_read_on_paper x at p ≡ read_part w kind at p → header_read_on_paper y at p ≡ read_part w kind at p → SameRead x y
 header_at w kind at p x y e f = go x y (e ∙ sym f)
   where
@@ -218,11 +208,11 @@ header_at w kind at p x y e f = go x y (e ∙ sym f)
     unrefuse : {a b : Row} → refuses a ≡ refuses b → a ≡ b
     unrefuse e = cc
 
-    go : (x y : HeaderRead) → header_read_on_paper x at p ≡ header_read_on_paper y at p → SameRead x y
-    go (D.Whole x) (D.Whole y) e = same_found at p x y (unread e)
-    go (D.Refused q) (D.Refused r) e = settled_by refusal-back (unrefuse e) refl
-    go (D.Whole x) (D.Refused r) e = let z : ◌≡◌ {A = ℕ} 0 1 = cc in omega arith
-    go (D.Refused q) (D.Whole y) e = let z : ◌≡◌ {A = ℕ} 0 1 = cc in omega arith
+    go : (x y : Result HeaderFound Refusal) → header_read_on_paper x at p ≡ header_read_on_paper y at p → SameRead x y
+    go (Ok x) (Ok y) e = same_found at p x y (unread e)
+    go (Err q) (Err r) e = settled_by refusal-back (unrefuse e) refl
+    go (Ok x) (Err r) e = let z : ◌≡◌ {A = ℕ} 0 1 = cc in omega arith
+    go (Err q) (Ok y) e = let z : ◌≡◌ {A = ℕ} 0 1 = cc in omega arith
 
 -- ---- the slicer: the reply with the unused slots of its tags
 
@@ -230,10 +220,10 @@ pub slice : (entry : Entry) (s : List ℕ) → Settles (Sliced entry s)
 slice entry s x y e f = settled_by packet_back e f
 
 -- from_ethernet, from_ipv4 and from_ipv6, by the entry of their kind
-pub from_kind : (entry : Entry) (s : List ℕ) → Settles (λ (r : SlicedPacket). packet_on_paper r ≡ reply_of entry s)
+pub from_kind : (entry : Entry) (s : List ℕ) → Settles (λ (r : Result SlicedPacket Refusal). packet_on_paper r ≡ reply_of entry s)
 from_kind entry s x y e f = settled_by packet_back e f
 
-pub tcp-options : (n : ℕ) (t : TransportPart) → Settles (λ (r : OptionsPart). r ≡ options_of n t)
+pub tcp-options : (n : ℕ) (t : Option Header) → Settles (λ (r : Option Range). r ≡ options_of n t)
 tcp-options n t x y e f = same_value e f
 
 pub header : (entry : Entry) (s : List ℕ) (k : ℕ) → Settles (HeaderIs entry s k)

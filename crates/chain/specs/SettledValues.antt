@@ -34,7 +34,6 @@ use Rattle.tcp_options.specs.declared.kind.OptionKind.{OptionKind}
 use Rattle.tcp_options.specs.Options.{options, option_of, number_of}
 use Rattle.tcp_options.specs.Paper.{kind_on_paper}
 use Rattle.tcp_options.specs.Paper as O
-use Rattle.printing.specs.declared.Printed.{Printed}
 use Rattle.printing.specs.Text.{text_of}
 use Rattle.printing.specs.Put.{printed_in, printed_by}
 use Rattle.exports.specs.declared.handed.Packet.{Packet}
@@ -108,8 +107,8 @@ ext-turn n place = by_value (ext_turn place n)
 pub opens_auth : (n : ℕ) → Settles (λ (r : Bool). r ≡ eqb n auth_number)
 opens_auth n = by_value (eqb n auth_number)
 
-pub stop_behind : Settles (λ (r : Stop). r ≡ S.TransportRead)
-stop_behind = by_value (S.TransportRead)
+pub stop_behind : Settles (λ (r : Stop). r ≡ S.Result TransportHeader Fault)
+stop_behind = by_value (S.Result TransportHeader Fault)
 
 -- ---- crate steps: what `clear` leaves in n lent numbers
 
@@ -126,7 +125,7 @@ option_refusal_row self = by_value (O.refusal_on_paper self)
 
 -- ---- crate printing: what is answered, and what is left in a buffer of n bytes
 
-pub print : (entry : Entry) (s : List ℕ) (n : ℕ) → Settles (λ (r : Printed). r ≡ printed_by (text_of entry s) n)
+pub print : (entry : Entry) (s : List ℕ) (n : ℕ) → Settles (λ (r : Option ℕ). r ≡ printed_by (text_of entry s) n)
 print entry s n = by_value (printed_by (text_of entry s) n)
 
 pub print_left : (entry : Entry) (s : List ℕ) (n : ℕ) → Settles (λ (after : List ℕ). after ≡ printed_in (text_of entry s) n)

@@ -1,7 +1,10 @@
 -- The TCP options of a frame: where its chain has a TCP header, `slice` and then `tcp_options` give the range from byte 20 of that header to its
 -- end, and never nothing. Bytes past the declared length don't move it: alike frames have one reply (Alike.antt), so `same_options`.
-use Rattle.std.specs.Prelude.{ℕ, suc, ◌+◌, ◌-◌, ◌≤◌, ◌<◌, ◌≡◌, refl, Bool, true, false, List, [], ◌∷◌, length, drop, eqb}
+use Rattle.std.specs.Prelude.{ℕ, suc, ◌+◌, ◌-◌, ◌≤◌, ◌<◌, ◌≡◌, refl, Bool, true, false, List, [], ◌∷◌, length, drop, eqb, Option, Some, None, Result}
 use Rattle.std.proofs.Common.{sym, ap, ◌∙◌, subst, arith, eqb-true}
+use Rattle.slicer.specs.declared.packet.IpPart.{IpPart}
+use Rattle.rules.specs.declared.place.Range.{Range}
+use Rattle.rules.specs.declared.refusal.Refusal.{Refusal}
 use Rattle.rules.specs.declared.entry.Entry.{Entry}
 use Rattle.rules.specs.declared.kind.Kind.{Kind}
 use Rattle.rules.specs.declared.kind.Kind.TheVariants.{Ethernet2, Vlan, Ipv4, Ipv6, HopByHop, Routing, Destination, Fragment, Auth, Udp, Tcp}
@@ -18,12 +21,6 @@ use Rattle.laws.specs.Back.{settled_by, kind-back}
 use Rattle.laws.specs.Gather.{listed}
 use Rattle.laws.specs.Kinds.{sized}
 use Rattle.slicer.specs.declared.packet.SlicedPacket.{SlicedPacket}
-use Rattle.slicer.specs.declared.packet.NetPart.{NetPart}
-use Rattle.slicer.specs.declared.packet.NetPart.TheVariants as N
-use Rattle.slicer.specs.declared.packet.TransportPart.{TransportPart}
-use Rattle.slicer.specs.declared.packet.TransportPart.TheVariants as T
-use Rattle.slicer.specs.declared.options.OptionsPart.{OptionsPart}
-use Rattle.slicer.specs.declared.options.OptionsPart.TheVariants as P
 use Rattle.slicer.specs.Reply.{Reply, Parts, nothing, slice_way, put, extended, range}
 use Rattle.slicer.specs.Options.{options_of, there}
 use Rattle.tcp_options.specs.declared.answer.OptionAnswer.{OptionAnswer}
@@ -37,7 +34,7 @@ use Rattle.chain.specs.Inside.{header_inside}
 use Rattle.chain.specs.Walked.{Walked, whole_walk, broken_walk, walked}
 use Rattle.chain.specs.Accepted.{chain→reply}
 use Rattle.chain.specs.Refused.{broken→reply}
-use Rattle.chain.specs.Answers.{Sliced}
+use Rattle.chain.specs.Answers.{Sliced, transport_of}
 use Rattle.chain.specs.Alike.{Alike, same_reply}
 
 -- ---- every header of a chain has the least length of its kind
@@ -57,21 +54,21 @@ header_long e s c a = go c a
 -- ---- the reply's transport header is one of the chain
 
 -- it is h
-abbrev pub Carries : TransportPart → Header → Type 0
-Carries t h = t ≡ T.Is h
+abbrev pub Carries : Option Header → Header → Type 0
+Carries t h = t ≡ Some h
 
 -- a header of the list that is h
 abbrev OneOf : List HeaderAt → Header → Type 0
 OneOf hs h = (k : ℕ) × (e : HeaderAt) × At hs k e × (header e ≡ h)
 
 -- what one header puts there: itself, or what was there before
-data Puts (e : HeaderAt) (before : TransportPart) : TransportPart → Type 0 where
-  itself : Puts e before (T.Is (header e))
+data Puts (e : HeaderAt) (before : Option Header) : Option Header → Type 0 where
+  itself : Puts e before (Some (header e))
   nothing_new : Puts e before before
 
-extended_keeps : (n : NetPart) (f : Parts) (to : ℕ) (e : HeaderAt) → Puts e f.transport (extended n f to e.room.mark).transport
-extended_keeps N.Nothing f to e = nothing_new
-extended_keeps (N.Ip i) f to e = nothing_new
+extended_keeps : (n : Option IpPart) (f : Parts) (to : ℕ) (e : HeaderAt) → Puts e f.transport (extended n f to e.room.mark).transport
+extended_keeps None f to e = nothing_new
+extended_keeps (Some i) f to e = nothing_new
 
 puts : (k : Kind) (f : Parts) (e : HeaderAt) → Puts e f.transport (put k f e).transport
 puts Ethernet2 f e = nothing_new
@@ -87,7 +84,7 @@ puts Udp f e = itself
 puts Tcp f e = itself
 
 -- so what stands there behind a list is one of it, or was there before
-data From (hs : List HeaderAt) (before : TransportPart) (h : Header) : Type 0 where
+data From (hs : List HeaderAt) (before : Option Header) (h : Header) : Type 0 where
   of_list : OneOf hs h → From hs before h
   of_before : Carries before h → From hs before h
 
@@ -96,28 +93,28 @@ unfolding listed
 carried_by [] f e = of_before e
 carried_by (g ∷ hs) f {h} e = go (puts g.kind f g) (carried_by hs (put g.kind f g) e)
   where
-    go : {t : TransportPart} → Puts g f.transport t → From hs t h → From (g ∷ hs) f.transport h
+    go : {t : Option Header} → Puts g f.transport t → From hs t h → From (g ∷ hs) f.transport h
     go p (of_list o) = of_list (suc o.0, o.1, later o.2, o.3)
     go itself (of_before q) = of_list (0, g, here, cc)
     go nothing_new (of_before q) = of_before q
 
 -- ---- the theorem
 
-module _ (entry : Entry) (s : List ℕ) (r : SlicedPacket) (e : Sliced entry s r) (h : Header) (o : Carries r.transport h) (k : h.kind ≡ kind_number Tcp) where
+module _ (entry : Entry) (s : List ℕ) (r : Result SlicedPacket Refusal) (e : Sliced entry s r) (h : Header) (o : Carries (transport_of r) h) (k : h.kind ≡ kind_number Tcp) where
   in_chain : {hs : List HeaderAt} {x : Stopped} → ChainOf entry s hs x → OneOf hs h
   in_chain {hs} c = go (carried_by hs nothing (sym (ap (λ (p : Reply). p.transport) (chain→reply entry s r e c)) ∙ o))
     where
-      go : From hs T.Nothing h → OneOf hs h
+      go : From hs None h → OneOf hs h
       go (of_list w) = w
       go (of_before q) = let z : ◌≡◌ {A = ℕ} 0 1 = cc in absurd (omega arith)
 
   is_tcp : (g : HeaderAt) → header g ≡ h → g.kind ≡ Tcp
   is_tcp g q = settled_by kind-back (ap (λ (y : Header). y.kind) q ∙ k) refl
 
-  pub options-there : options_of (length s) r.transport ≡ P.At (range (h.at + tcp_length) (h.len - tcp_length))
+  pub options-there : options_of (length s) (transport_of r) ≡ Some (range (h.at + tcp_length) (h.len - tcp_length))
   options-there = go (walked entry s)
     where
-      go : {t : Trace HeaderAt} → Walked entry s t → options_of (length s) r.transport ≡ P.At (range (h.at + tcp_length) (h.len - tcp_length))
+      go : {t : Trace HeaderAt} → Walked entry s t → options_of (length s) (transport_of r) ≡ Some (range (h.at + tcp_length) (h.len - tcp_length))
       go (whole_walk c) =
           let w = in_chain c in
           let at = ap (λ (y : Header). y.at) w.3 in
@@ -131,27 +128,27 @@ module _ (entry : Entry) (s : List ℕ) (r : SlicedPacket) (e : Sliced entry s r
           absurd (omega arith)
 
 -- no TCP header, no options
-none : (n : ℕ) → options_of n T.Nothing ≡ P.Nothing
+none : (n : ℕ) → options_of n None ≡ None
 unfolding options_of
 none n = refl
 
-other : (n : ℕ) (h : Header) → eqb h.kind (kind_number Tcp) ≡ false → options_of n (T.Is h) ≡ P.Nothing
+other : (n : ℕ) (h : Header) → eqb h.kind (kind_number Tcp) ≡ false → options_of n (Some h) ≡ None
 unfolding options_of
 other n h q = rw q
 
 -- of alike frames, such as two that differ only past a declared length
-pub same_options : (entry : Entry) (s t : List ℕ) → Alike entry s t → (x y : SlicedPacket) → Sliced entry s x → Sliced entry t y
-    → options_of (length s) x.transport ≡ options_of (length t) y.transport
-same_options entry s t a x y e f = go x.transport refl
+pub same_options : (entry : Entry) (s t : List ℕ) → Alike entry s t → (x y : Result SlicedPacket Refusal) → Sliced entry s x → Sliced entry t y
+    → options_of (length s) (transport_of x) ≡ options_of (length t) (transport_of y)
+same_options entry s t a x y e f = go (transport_of x) refl
   where
-    too : y.transport ≡ x.transport
-    too = ap (λ (p : SlicedPacket). p.transport) (sym (same_reply entry s t a x y e f))
+    too : (transport_of y) ≡ (transport_of x)
+    too = ap transport_of (sym (same_reply entry s t a x y e f))
 
-    go : (p : TransportPart) → x.transport ≡ p → options_of (length s) x.transport ≡ options_of (length t) y.transport
-    go T.Nothing w = rw (too, w) (none (length s) ∙ sym (none (length t)))
-    go (T.Is h) w = by (eqb h.kind (kind_number Tcp)) refl
+    go : (p : Option Header) → (transport_of x) ≡ p → options_of (length s) (transport_of x) ≡ options_of (length t) (transport_of y)
+    go None w = rw (too, w) (none (length s) ∙ sym (none (length t)))
+    go (Some h) w = by (eqb h.kind (kind_number Tcp)) refl
       where
-        by : (b : Bool) → eqb h.kind (kind_number Tcp) ≡ b → options_of (length s) x.transport ≡ options_of (length t) y.transport
+        by : (b : Bool) → eqb h.kind (kind_number Tcp) ≡ b → options_of (length s) (transport_of x) ≡ options_of (length t) (transport_of y)
         by true q =
             let k = eqb-true h.kind (kind_number Tcp) q in
             options-there entry s x e h w k ∙ sym (options-there entry t y f h (too ∙ w) k)
@@ -167,8 +164,8 @@ tcp-ends k g p {j} e q = go (subst (λ (i : Kind). turn_of i g p ≡ U.Opens j) 
     go : turn_of Tcp g p ≡ U.Opens j → ⊥
     go q = let z : ◌≡◌ {A = ℕ} 0 1 = cc in omega arith
 
-put-tcp : (k : Kind) (f : Parts) (e : HeaderAt) → k ≡ Tcp → (put k f e).transport ≡ T.Is (header e)
-put-tcp k f e q = subst (λ (j : Kind). (put j f e).transport ≡ T.Is (header e)) (sym q) refl
+put-tcp : (k : Kind) (f : Parts) (e : HeaderAt) → k ≡ Tcp → (put k f e).transport ≡ Some (header e)
+put-tcp k f e q = subst (λ (j : Kind). (put j f e).transport ≡ Some (header e)) (sym q) refl
 
 tcp-carried : {s : List ℕ} {p : Place} {hs : List HeaderAt} {x : Stopped} {k : ℕ} {e : HeaderAt} (f : Parts) → Chain s p hs x → At hs k e → e.kind ≡ Tcp
     → Carries (listed slice_way f hs).transport (header e)
@@ -179,11 +176,11 @@ tcp-carried {s} f (more {p} h l c) here q = absurd (tcp-ends p.kind (bytes s p) 
 tcp-carried {s} f (more {p} h l c) (later a) q = tcp-carried (put p.kind f (listed_at s p)) c a q
 
 -- what is said of the options r that are told of a frame: where the chain has a TCP header, they are what follows its byte 20
-abbrev pub OptionsOfChain : Entry → List ℕ → OptionsPart → Type 0
+abbrev pub OptionsOfChain : Entry → List ℕ → Option Range → Type 0
 OptionsOfChain entry s r = (hs : List HeaderAt) (x : Stopped) (k : ℕ) (e : HeaderAt) → ChainOf entry s hs x → At hs k e → e.kind ≡ Tcp
-    → r ≡ P.At (range (e.at + tcp_length) (e.len - tcp_length))
+    → r ≡ Some (range (e.at + tcp_length) (e.len - tcp_length))
 
-pub options_of_chain : (entry : Entry) (s : List ℕ) (a : SlicedPacket) (r : OptionsPart) → Sliced entry s a → r ≡ options_of (length s) a.transport
+pub options_of_chain : (entry : Entry) (s : List ℕ) (a : Result SlicedPacket Refusal) (r : Option Range) → Sliced entry s a → r ≡ options_of (length s) (transport_of a)
     → OptionsOfChain entry s r
 options_of_chain entry s a r e o hs x k g c n q =
     o ∙ options-there entry s a e (header g) (ap (λ (p : Reply). p.transport) (chain→reply entry s a e c) ∙ go c n) (ap kind_number q)

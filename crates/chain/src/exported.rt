@@ -1,7 +1,6 @@
 // The exports, for every number that is an entry's: accepted, in order, counted and refused as the chain is.
-ghost use Rattle.std.specs.Prelude.{◌≡◌, [], ◌∷◌, length};
+ghost use Rattle.std.specs.Prelude.{◌≡◌, [], ◌∷◌, length, Some};
 ghost use Rattle.rules.specs.declared.entry.Entry.{Entry};
-ghost use Rattle.exports.specs.declared.Chosen.TheVariants as C;
 ghost use Rattle.exports.specs.Handed.{entry_by};
 ghost use Rattle.chain.specs.Exported.{PacketTells, HeaderTells, CountTells, OptionReplyTells};
 ghost use Rattle.chain.specs.Frames.{ask, sum as sum_question, no_zero, checksum};
@@ -15,26 +14,26 @@ use exports::{
 use exports_by_number::{bhirkulom_count, bhirkulom_header};
 
 pub fn slice(frame: &[u8], entry: usize) -> Packet
-    ensures { (e : Entry) → entry_by entry ≡ C.Is e → PacketTells e frame.now result }
+    ensures { (e : Entry) → entry_by entry ≡ Some e → PacketTells e frame.now result }
 {
     bhirkulom_slice(frame, entry)
 }
 
 pub fn header(frame: &[u8], entry: usize, k: usize) -> HeaderReply
-    ensures { (e : Entry) → entry_by entry ≡ C.Is e → HeaderTells e frame.now k result }
+    ensures { (e : Entry) → entry_by entry ≡ Some e → HeaderTells e frame.now k result }
 {
     bhirkulom_header(frame, entry, k)
 }
 
 pub fn count(frame: &[u8], entry: usize) -> CountReply
-    ensures { (e : Entry) → entry_by entry ≡ C.Is e → CountTells e frame.now result }
+    ensures { (e : Entry) → entry_by entry ≡ Some e → CountTells e frame.now result }
 {
     bhirkulom_count(frame, entry)
 }
 
 pub fn headers(frame: &[u8], entry: usize, k: usize, heads: &mut [usize]) -> CountReply
-    ensures counted { (e : Entry) → entry_by entry ≡ C.Is e → CountTells e frame.now result }
-    ensures listed { (e : Entry) → entry_by entry ≡ C.Is e → ListInOrder e frame.now k (length heads.old) heads.new }
+    ensures counted { (e : Entry) → entry_by entry ≡ Some e → CountTells e frame.now result }
+    ensures listed { (e : Entry) → entry_by entry ≡ Some e → ListInOrder e frame.now k (length heads.old) heads.new }
 {
     bhirkulom_headers(frame, entry, k, heads)
 }

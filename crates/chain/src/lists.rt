@@ -1,16 +1,14 @@
 // The list of headers: the chain's, in order; of a refused frame nothing that reads as a header.
-ghost use Rattle.std.specs.Prelude.{◌≡◌, length};
+ghost use Rattle.std.specs.Prelude.{◌≡◌, length, Err};
 ghost use Rattle.rules.specs.declared.refusal.Refusal.{Refusal};
-ghost use Rattle.steps.specs.declared.list.CountAnswer.TheVariants as CA;
 ghost use Rattle.chain.specs.Headers.{CountIsLength, ListInOrder};
 ghost use Rattle.chain.specs.Refused.{RefusedForAReason};
 
-use rules::Entry;
-use steps::CountAnswer;
+use rules::{Entry, Refusal};
 
-pub fn headers(s: &[u8], entry: Entry, k: usize, out: &mut [usize]) -> CountAnswer
+pub fn headers(s: &[u8], entry: Entry, k: usize, out: &mut [usize]) -> Result<usize, Refusal>
     ensures counted { CountIsLength entry s.now result }
-    ensures refused { RefusedForAReason entry s.now (λ (q : Refusal). result ≡ CA.Refused q) }
+    ensures refused { RefusedForAReason entry s.now (λ (q : Refusal). result ≡ Err q) }
     ensures listed { ListInOrder entry s.now k (length out.old) out.new }
 {
     steps::headers(s, entry, k, out)

@@ -1,16 +1,17 @@
 // TCP options: where a frame's stand, and the one at a place.
 ghost use Rattle.chain.specs.TcpOptions.{OptionsOfChain, OptionTells};
 
-use rules::Entry;
-use slicer::OptionsPart;
+use rules::{Entry, Range};
 use tcp_options::OptionAnswer;
 
 // What follows byte 20 of the chain's TCP header.
-pub fn of_frame(s: &[u8], entry: Entry) -> OptionsPart
+pub fn of_frame(s: &[u8], entry: Entry) -> Option<Range>
     ensures { OptionsOfChain entry s.now result }
 {
-    let reply = slicer::slice(s, entry);
-    reply.tcp_options(s)
+    match slicer::slice(s, entry) {
+        Ok(packet) => packet.tcp_options(s),
+        Err(_) => None,
+    }
 }
 
 pub fn option(s: &[u8], k: usize) -> OptionAnswer

@@ -1,5 +1,6 @@
 -- What each answer is on the other side of the boundary: a status, and document 01's numbers.
-use Rattle.std.specs.Prelude.{ℕ, List, [], ◌∷◌, map, Bool, true, false, eqb}
+use Rattle.std.specs.Prelude.{ℕ, List, [], ◌∷◌, map, Bool, true, false, eqb, Option, Some, None}
+use Rattle.rules.specs.declared.entry.Entry.{Entry}
 use Rattle.rules.specs.declared.entry.Entry.TheVariants as E
 use Rattle.rules.specs.declared.place.Header.{Header}
 use Rattle.rules.specs.declared.place.Number.{Number}
@@ -10,21 +11,13 @@ use Rattle.rules.specs.Numbers.{tag_limit}
 use Rattle.rules.specs.Test.{pick}
 use Rattle.rules.specs.Place.{Stopped}
 use Rattle.rules.specs.Walk.{Answer, is, no-more, refusal, header_of, count_of, slices}
-use Rattle.slicer.specs.declared.packet.LinkPart.{LinkPart}
-use Rattle.slicer.specs.declared.packet.LinkPart.TheVariants as L
 use Rattle.slicer.specs.declared.packet.IpPart.{IpPart}
-use Rattle.slicer.specs.declared.packet.NetPart.{NetPart}
-use Rattle.slicer.specs.declared.packet.NetPart.TheVariants as N
-use Rattle.slicer.specs.declared.packet.TransportPart.{TransportPart}
-use Rattle.slicer.specs.declared.packet.TransportPart.TheVariants as T
 use Rattle.slicer.specs.declared.packet.SlicedPacket.{SlicedPacket}
 use Rattle.slicer.specs.Reply.{range, Reply, Ended, accepted, refused, reply_of, no_header, slots}
 use Rattle.laws.specs.Zeros.{zeros}
 use Rattle.steps.specs.Lists.{list_of}
 use Rattle.tcp_options.specs.declared.answer.OptionRow.{OptionRow}
 use Rattle.tcp_options.specs.Options as O
-use Rattle.exports.specs.declared.Chosen.{Chosen}
-use Rattle.exports.specs.declared.Chosen.TheVariants as C
 use Rattle.exports.specs.declared.handed.Net.{Net}
 use Rattle.exports.specs.declared.handed.Packet.{Packet}
 use Rattle.exports.specs.declared.handed.HeaderReply.{HeaderReply}
@@ -54,17 +47,17 @@ no_such_entry = 3
 
 -- "Entries: a whole Ethernet II frame, a packet known to be IPv4, and a packet known to be IPv6", numbered in that order from 1
 -- `EXP-1`
-abbrev pub entry_by : ℕ → Chosen
-entry_by n = pick (eqb n 1) (C.Is E.Ethernet) (pick (eqb n 2) (C.Is E.Ipv4) (pick (eqb n 3) (C.Is E.Ipv6) C.Unknown))
+abbrev pub entry_by : ℕ → Option Entry
+entry_by n = pick (eqb n 1) (Some E.Ethernet) (pick (eqb n 2) (Some E.Ipv4) (pick (eqb n 3) (Some E.Ipv6) None))
 
 -- ---- parts
 
 abbrev pub range_of : Header → Range
 range_of h = range h.at h.len
 
-abbrev pub link_header : LinkPart → Header
-link_header L.Nothing = no_header
-link_header (L.Ethernet2 h) = h
+abbrev pub header_or_none : Option Header → Header
+header_or_none None = no_header
+header_or_none (Some h) = h
 
 abbrev pub no_net : Net
 no_net = record { header = no_header; exts = range 0 0; fragmented = false }
@@ -72,13 +65,9 @@ no_net = record { header = no_header; exts = range 0 0; fragmented = false }
 abbrev pub net_by : IpPart → Net
 net_by i = record { header = i.header; exts = i.exts; fragmented = i.fragmented }
 
-abbrev pub net_of : NetPart → Net
-net_of N.Nothing = no_net
-net_of (N.Ip i) = net_by i
-
-abbrev pub transport_header : TransportPart → Header
-transport_header T.Nothing = no_header
-transport_header (T.Is h) = h
+abbrev pub net_of : Option IpPart → Net
+net_of None = no_net
+net_of (Some i) = net_by i
 
 abbrev pub number_of : Number → ℕ
 number_of (M.Link t) = t.0
@@ -135,18 +124,18 @@ packet link count tags net transport end = record {
 }
 
 abbrev pub packet_by : Reply → Packet
-packet_by r = packet (link_header r.link) r.count r.tags (net_of r.net) (transport_header r.transport) (end_of r.ended)
+packet_by r = packet (header_or_none r.link) r.count r.tags (net_of r.net) (header_or_none r.transport) (end_of r.ended)
 
 -- the packet of an accepted frame, its IP header handed over as n
 abbrev pub accepted_with : SlicedPacket → Net → Stopped → Packet
-accepted_with p n x = packet (link_header p.link) p.count p.tags n (transport_header p.transport) (end_of (accepted x))
+accepted_with p n x = packet (header_or_none p.link) p.count p.tags n (header_or_none p.transport) (end_of (accepted x))
 
 abbrev pub no_parts : End → Packet
 no_parts end = packet no_header 0 (slots tag_limit []) no_net no_header end
 
-abbrev pub slice_for : Chosen → List ℕ → Packet
-slice_for (C.Is e) s = packet_by (reply_of e s)
-slice_for C.Unknown s = no_parts (unread no_such_entry no_row)
+abbrev pub slice_for : Option Entry → List ℕ → Packet
+slice_for (Some e) s = packet_by (reply_of e s)
+slice_for None s = no_parts (unread no_such_entry no_row)
 
 -- ---- header k, and the count
 
@@ -158,9 +147,9 @@ header_by (is h) = header_reply there h no_row
 header_by no-more = header_reply no_more no_header no_row
 header_by (refusal q) = header_reply is_refused no_header q
 
-abbrev pub header_for : Chosen → List ℕ → ℕ → HeaderReply
-header_for (C.Is e) s k = header_by (header_of (slices e s) k)
-header_for C.Unknown s k = header_reply no_such_entry no_header no_row
+abbrev pub header_for : Option Entry → List ℕ → ℕ → HeaderReply
+header_for (Some e) s k = header_by (header_of (slices e s) k)
+header_for None s k = header_reply no_such_entry no_header no_row
 
 abbrev pub count_reply : ℕ → ℕ → Row → CountReply
 count_reply status count row = record { status = status; count = count; refusal = row }
@@ -170,14 +159,14 @@ count_answer_by (is n) = count_reply there n no_row
 count_answer_by no-more = count_reply no_more 0 no_row
 count_answer_by (refusal q) = count_reply is_refused 0 q
 
-abbrev pub count_for : Chosen → List ℕ → CountReply
-count_for (C.Is e) s = count_answer_by (count_of (slices e s))
-count_for C.Unknown s = count_reply no_such_entry 0 no_row
+abbrev pub count_for : Option Entry → List ℕ → CountReply
+count_for (Some e) s = count_answer_by (count_of (slices e s))
+count_for None s = count_reply no_such_entry 0 no_row
 
 -- n numbers lent for a list of headers, with the headers from number k on, and zeros
-abbrev pub list_for : Chosen → List ℕ → (k n : ℕ) → List ℕ
-list_for (C.Is e) s k n = list_of (slices e s) k n
-list_for C.Unknown s k n = zeros n
+abbrev pub list_for : Option Entry → List ℕ → (k n : ℕ) → List ℕ
+list_for (Some e) s k n = list_of (slices e s) k n
+list_for None s k n = zeros n
 
 -- ---- option k
 

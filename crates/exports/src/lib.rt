@@ -14,35 +14,23 @@ ghost use Rattle.exports.specs.Handed.{
   option_by,
 };
 
-use crate::handed::{CountReply, INTERFACE, OptionReply, Packet};
+use crate::handed::{CountReply, INTERFACE, Net, OptionReply, Packet};
 use checksum::Sum16BitWords;
 use rules::Entry;
-use slicer::{NetPart, Outcome};
-use steps::CountAnswer;
 
 pub mod handed;
 mod reply;
 
-// An entry by its number, or the answer that there is none of that number.
-#[derive(Clone, Copy)]
-pub enum Chosen {
-    Is(Entry),
-    Unknown,
-}
-
-fn entry_by(number: usize) -> Chosen
+// An entry by its number.
+fn entry_by(number: usize) -> Option<Entry>
     ensures { result ≡ entry_by number }
 {
-    if number == 1 {
-        return Chosen::Is(Entry::Ethernet);
+    match number {
+        1 => Some(Entry::Ethernet),
+        2 => Some(Entry::Ipv4),
+        3 => Some(Entry::Ipv6),
+        _ => None,
     }
-    if number == 2 {
-        return Chosen::Is(Entry::Ipv4);
-    }
-    if number == 3 {
-        return Chosen::Is(Entry::Ipv6);
-    }
-    Chosen::Unknown
 }
 
 // The version of the interface that this library was built with.
@@ -57,26 +45,20 @@ pub fn bhirkulom_slice(frame: &[u8], entry: usize) -> Packet
     ensures answer { result ≡ slice_for (entry_by entry) frame.now }
     ensures unwritten { frame.exit.now ≡ frame.entry.now }
 {
-    let chosen = entry_by(entry);
-    let Chosen::Is(known) = chosen else {
+    let Some(known) = entry_by(entry) else {
         return reply::no_packet();
     };
-    let sliced = slicer::slice(frame, known);
-    let outcome = sliced.outcome;
     // a `return` in each arm: a value out of the match would be put together in memory and copied (docs/SPEED.md)
-    match outcome {
-        Outcome::Accepted(ending) => {
-            let net = sliced.net;
-            match net {
-                NetPart::Nothing => {
-                    return reply::accepted_packet(sliced, reply::no_net(), ending);
-                }
-                NetPart::Ip(ip) => {
-                    return reply::accepted_packet(sliced, reply::net_by(ip), ending);
-                }
+    match slicer::slice(frame, known) {
+        Ok(sliced) => match sliced.net {
+            None => {
+                return reply::accepted_packet(sliced, reply::no_net());
             }
-        }
-        Outcome::Refused(refusal) => {
+            Some(ip) => {
+                return reply::accepted_packet(sliced, Net::from(ip));
+            }
+        },
+        Err(refusal) => {
             return reply::refused_packet(refusal);
         }
     }
@@ -89,20 +71,11 @@ pub fn bhirkulom_headers(frame: &[u8], entry: usize, k: usize, heads: &mut [usiz
     ensures listed { heads.new ≡ list_for (entry_by entry) frame.now k (length heads.old) }
     ensures unwritten { frame.exit.now ≡ frame.entry.now }
 {
-    let chosen = entry_by(entry);
-    let Chosen::Is(known) = chosen else {
+    let Some(known) = entry_by(entry) else {
         steps::clear(heads);
         return reply::no_count();
     };
-    let counted = steps::headers(frame, known, k, heads);
-    match counted {
-        CountAnswer::Is(count) => {
-            return reply::counted(count);
-        }
-        CountAnswer::Refused(refusal) => {
-            return reply::uncounted(refusal);
-        }
-    }
+    CountReply::from(steps::headers(frame, known, k, heads))
 }
 
 // Option number k, counted from 0, of what follows byte 20 of a TCP header.

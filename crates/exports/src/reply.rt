@@ -1,18 +1,16 @@
 // Answers made what is handed over the boundary.
-ghost use Rattle.std.specs.Prelude.{◌≡◌, [], map};
+ghost use Rattle.std.specs.Prelude.{◌≡◌, [], map, None};
 ghost use Rattle.rules.specs.Numbers.{tag_limit};
 ghost use Rattle.rules.specs.Paper.{refusal_on_paper};
 ghost use Rattle.rules.specs.Place.{ending_on_paper};
 ghost use Rattle.slicer.specs.Reply.{no_header, refused_by};
-ghost use Rattle.rules.specs.Walk.{is, refusal as refusal_of};
+ghost use Rattle.steps.specs.Lists.{count_on_paper};
 ghost use Rattle.tcp_options.specs.Paper.{kind_on_paper, option_on_paper};
-ghost use Rattle.exports.specs.declared.Chosen.TheVariants as C;
 ghost use Rattle.exports.specs.Handed.{
   range_of,
-  link_header,
+  header_or_none,
   no_net,
   net_by,
-  transport_header,
   number_of,
   numbering_of,
   no_row,
@@ -33,8 +31,8 @@ use crate::handed::{
     THERE,
 };
 use rules::ether_type::TAG_LIMIT;
-use rules::{Ending, Header, Number, Range, Refusal, Row};
-use slicer::{IpPart, LinkPart, SlicedPacket, TransportPart};
+use rules::{Header, Number, Range, Refusal, Row};
+use slicer::{IpPart, SlicedPacket};
 use tcp_options::{OptionAnswer, OptionKind, OptionRow};
 
 pub fn no_header() -> Header
@@ -58,12 +56,13 @@ pub fn no_row() -> Row
     }
 }
 
-fn link_header(part: LinkPart) -> Header
-    ensures { result ≡ link_header part }
+// A header that was found, or zeros.
+fn header_or_none(found: Option<Header>) -> Header
+    ensures { result ≡ header_or_none found }
 {
-    match part {
-        LinkPart::Nothing => no_header(),
-        LinkPart::Ethernet2(header) => header,
+    match found {
+        None => no_header(),
+        Some(header) => header,
     }
 }
 
@@ -77,24 +76,15 @@ pub fn no_net() -> Net
     }
 }
 
-pub fn net_by(ip: IpPart) -> Net
-    ensures { result ≡ net_by ip }
-{
-    let header = ip.header;
-    let exts = ip.exts;
-    Net {
-        header,
-        exts,
-        fragmented: ip.fragmented,
-    }
-}
+impl From<IpPart> for Net {
+    ghost from_gives = { λ ip net. net ≡ net_by ip };
 
-fn transport_header(part: TransportPart) -> Header
-    ensures { result ≡ transport_header part }
-{
-    match part {
-        TransportPart::Nothing => no_header(),
-        TransportPart::Is(header) => header,
+    fn from(ip: IpPart) -> Net {
+        Net {
+            header: ip.header,
+            exts: ip.exts,
+            fragmented: ip.fragmented,
+        }
     }
 }
 
@@ -119,41 +109,28 @@ fn numbering(number: Number) -> usize
 fn ranges(tags: [Header; TAG_LIMIT]) -> [Range; TAG_LIMIT]
     ensures { result ≡ map range_of tags }
 {
-    let none = Range { at: 0, len: 0 };
-    let mut out = [none; TAG_LIMIT];
-    let mut i: usize = 0;
-    while i < TAG_LIMIT {
-        let tag = tags[i];
-        out[i] = Range {
-            at: tag.at,
-            len: tag.len,
-        };
-        i += 1;
-    }
-    out
+    tags.map(|tag| Range {
+        at: tag.at,
+        len: tag.len,
+    })
 }
 
 // The packet of an accepted frame, its IP header handed over as `net`.
-pub fn accepted_packet(sliced: SlicedPacket, net: Net, ending: Ending) -> Packet
-    ensures { result ≡ accepted_with sliced net (ending_on_paper ending) }
+pub fn accepted_packet(sliced: SlicedPacket, net: Net) -> Packet
+    ensures { result ≡ accepted_with sliced net (ending_on_paper sliced.ending) }
 {
-    let link = sliced.link;
-    let tags = sliced.tags;
-    let transport = sliced.transport;
-    let payload = ending.payload;
-    let number = ending.number;
-    let stop = ending.stop;
+    let ending = sliced.ending;
     Packet {
         status: THERE,
-        link: link_header(link),
+        link: header_or_none(sliced.link),
         count: sliced.count,
-        tags: ranges(tags),
+        tags: ranges(sliced.tags),
         net,
-        transport: transport_header(transport),
-        payload,
-        number: number_of(number),
-        numbering: numbering(number),
-        stop: stop.number(),
+        transport: header_or_none(sliced.transport),
+        payload: ending.payload,
+        number: number_of(ending.number),
+        numbering: numbering(ending.number),
+        stop: ending.stop.number(),
         refusal: no_row(),
     }
 }
@@ -181,41 +158,38 @@ fn partless(status: usize, refusal: Row) -> Packet
 pub fn refused_packet(refusal: Refusal) -> Packet
     ensures { result ≡ packet_by (refused_by (refusal_on_paper refusal)) }
 {
-    let row = refusal.row();
-    partless(REFUSED, row)
+    partless(REFUSED, Row::from(refusal))
 }
 
 // The answer to a number that no entry has.
 pub fn no_packet() -> Packet
-    ensures { result ≡ slice_for C.Unknown [] }
+    ensures { result ≡ slice_for None [] }
 {
-    let row = no_row();
-    partless(NO_SUCH_ENTRY, row)
+    partless(NO_SUCH_ENTRY, no_row())
 }
 
-pub fn counted(count: usize) -> CountReply
-    ensures { result ≡ count_answer_by (is count) }
-{
-    CountReply {
-        status: THERE,
-        count,
-        refusal: no_row(),
-    }
-}
+impl From<Result<usize, Refusal>> for CountReply {
+    ghost from_gives = { λ counted reply. reply ≡ count_answer_by (count_on_paper counted) };
 
-pub fn uncounted(refusal: Refusal) -> CountReply
-    ensures { result ≡ count_answer_by (refusal_of (refusal_on_paper refusal)) }
-{
-    CountReply {
-        status: REFUSED,
-        count: 0,
-        refusal: refusal.row(),
+    fn from(counted: Result<usize, Refusal>) -> CountReply {
+        match counted {
+            Ok(count) => CountReply {
+                status: THERE,
+                count,
+                refusal: no_row(),
+            },
+            Err(refusal) => CountReply {
+                status: REFUSED,
+                count: 0,
+                refusal: Row::from(refusal),
+            },
+        }
     }
 }
 
 // The count of a number that no entry has.
 pub fn no_count() -> CountReply
-    ensures { result ≡ count_for C.Unknown [] }
+    ensures { result ≡ count_for None [] }
 {
     CountReply {
         status: NO_SUCH_ENTRY,

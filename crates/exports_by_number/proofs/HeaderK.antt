@@ -11,8 +11,8 @@ use Rattle.rules.specs.Walk.{Trace, HeaderAt, header, nth, is, no-more, header_o
 use Rattle.rules.specs.Walk as W
 use Rattle.laws.specs.Walks.{nth_past}
 use Rattle.steps.specs.Lists.{written, written_from, headers_listed, list_of}
-use Rattle.exports.specs.declared.Chosen.{Chosen}
-use Rattle.exports.specs.declared.Chosen.TheVariants as C
+use Rattle.std.specs.Prelude.{Option, Some, None}
+use Rattle.rules.specs.declared.entry.Entry.{Entry}
 use Rattle.rules.specs.declared.place.Header.{Header}
 use Rattle.exports.specs.declared.handed.CountReply.{CountReply}
 use Rattle.slicer.specs.Reply.{no_header}
@@ -45,12 +45,12 @@ past (W.accepted hs x) k h = ap header_by (sym (nth_past hs k h))
 past (W.refused hs r) k h = refl
 past W.unfinished k h = refl
 
-pub header-here : (e : Chosen) (s : List ℕ) (k : ℕ) {c : CountReply} {o : List ℕ} → c ≡ count_for e s → o ≡ list_for e s k header_words → k < c.count
+pub header-here : (e : Option Entry) (s : List ℕ) (k : ℕ) {c : CountReply} {o : List ℕ} → c ≡ count_for e s → o ≡ list_for e s k header_words → k < c.count
     → header_reply there (head_in o) c.refusal ≡ header_for e s k
-header-here (C.Is e) s k a b h = rw (a, b) (here (slices e s) k (rw (← a) h))
-header-here C.Unknown s k a b h = let z : ◌≡◌ {A = ℕ} _ 0 = ap (λ (x : CountReply). x.count) a in absurd (omega arith)
+header-here (Some e) s k a b h = rw (a, b) (here (slices e s) k (rw (← a) h))
+header-here None s k a b h = let z : ◌≡◌ {A = ℕ} _ 0 = ap (λ (x : CountReply). x.count) a in absurd (omega arith)
 
-pub header_past : (e : Chosen) (s : List ℕ) (k : ℕ) {c : CountReply} → c ≡ count_for e s → c.count ≤ k → header_reply (pick (eqb
+pub header_past : (e : Option Entry) (s : List ℕ) (k : ℕ) {c : CountReply} → c ≡ count_for e s → c.count ≤ k → header_reply (pick (eqb
     c.status there) no_more c.status) no_header c.refusal ≡ header_for e s k
-header_past (C.Is e) s k a h = rw a (past (slices e s) k (rw (← a) h))
-header_past C.Unknown s k a h = rw a refl
+header_past (Some e) s k a h = rw a (past (slices e s) k (rw (← a) h))
+header_past None s k a h = rw a refl
