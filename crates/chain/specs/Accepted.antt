@@ -13,7 +13,7 @@ use Rattle.slicer.specs.Reply as P
 use Rattle.chain.specs.Chain.{ChainOf}
 use Rattle.chain.specs.Walked.{Walked, whole_walk, broken_walk, walked}
 use Rattle.chain.specs.Given.{chain_reply}
-use Rattle.chain.specs.Answers.{Sliced, outcome, ended_is}
+use Rattle.chain.specs.Answers.{Sliced, outcome_of, ended_is}
 
 -- a chain of the frame, by its entry, with the headers hs and the stop x
 abbrev pub HasChain : Entry → List ℕ → List HeaderAt → Stopped → Type 0
@@ -35,10 +35,10 @@ is_accepted (Ok e) q = (e, refl, cc)
 is_accepted (Err r) q = let z : ◌≡◌ {A = ℕ} 0 1 = cc in absurd (omega arith)
 
 chain→accepted : (entry : Entry) (s : List ℕ) {hs : List HeaderAt} {x : Stopped} (r : Result SlicedPacket Refusal) → Sliced entry s r → HasChain entry s hs x
-    → (e : Ending) × ((outcome r) ≡ Ok e) × (ending_on_paper e ≡ x)
-chain→accepted entry s r e c = is_accepted (outcome r) (ended_is r ∙ ap (λ (p : Reply). p.ended) (chain→reply entry s r e c))
+    → (e : Ending) × ((outcome_of r) ≡ Ok e) × (ending_on_paper e ≡ x)
+chain→accepted entry s r e c = is_accepted (outcome_of r) (ended_is r ∙ ap (λ (p : Reply). p.ended) (chain→reply entry s r e c))
 
-accepted→chain : (entry : Entry) (s : List ℕ) (r : Result SlicedPacket Refusal) {e : Ending} → Sliced entry s r → (outcome r) ≡ Ok e
+accepted→chain : (entry : Entry) (s : List ℕ) (r : Result SlicedPacket Refusal) {e : Ending} → Sliced entry s r → (outcome_of r) ≡ Ok e
     → (hs : List HeaderAt) × HasChain entry s hs (ending_on_paper e)
 unfolding reply_of gathered
 accepted→chain entry s r {e} q o = go (walked entry s) (sym (ap outcome_on_paper o) ∙ ended_is r ∙ ap (λ (p : Reply). p.ended) q)
@@ -52,5 +52,5 @@ accepted→chain entry s r {e} q o = go (walked entry s) (sym (ap outcome_on_pap
     go (broken_walk b) y = let w : ◌≡◌ {A = ℕ} 0 1 = cc in absurd (omega arith)
 
 -- every answer of `slice` is so
-pub accepted_iff_chain : (entry : Entry) (s : List ℕ) (r : Result SlicedPacket Refusal) → Sliced entry s r → AcceptedIffChain entry s (outcome r)
+pub accepted_iff_chain : (entry : Entry) (s : List ℕ) (r : Result SlicedPacket Refusal) → Sliced entry s r → AcceptedIffChain entry s (outcome_of r)
 accepted_iff_chain entry s r q = record { accepts = λ hs x c. chain→accepted entry s r q c; chained = λ e o. accepted→chain entry s r q o }

@@ -20,11 +20,11 @@ abbrev pub Sliced : Entry → List ℕ → Result SlicedPacket Refusal → Type 
 Sliced entry s r = packet_on_paper r ≡ reply_of entry s
 
 -- how it ends
-abbrev pub outcome : Result SlicedPacket Refusal → Result Ending Refusal
-outcome (Ok p) = Ok p.ending
-outcome (Err q) = Err q
+abbrev pub outcome_of : Result SlicedPacket Refusal → Result Ending Refusal
+outcome_of (Ok p) = Ok p.ending
+outcome_of (Err q) = Err q
 
-pub ended_is : (r : Result SlicedPacket Refusal) → outcome_on_paper (outcome r) ≡ (packet_on_paper r).ended
+pub ended_is : (r : Result SlicedPacket Refusal) → outcome_on_paper (outcome_of r) ≡ (packet_on_paper r).ended
 ended_is (Ok p) = refl
 ended_is (Err q) = refl
 

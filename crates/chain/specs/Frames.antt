@@ -1,6 +1,6 @@
 -- Document 01's starred frames, F1 to F10, in one table under one claim, by computation; besides them F12, the 60-byte line and the
 -- first byte 0x54. Bytes that the paper leaves open are zero.
-use Rattle.std.specs.Prelude.{ℕ, ◌*◌, ◌/◌, ◌%◌, ◌≡◌, refl, List, [], ◌∷◌, ◌++◌, map, replicate}
+use Rattle.std.specs.Prelude.{ℕ, ◌*◌, ◌/◌, ◌%◌, ◌≡◌, refl, List, [], ◌∷◌, ◌++◌, map, replicate, Result}
 use Rattle.std.proofs.Common.{ap, ◌∙◌}
 use Rattle.rules.specs.declared.kind.Kind.TheVariants.{Ethernet2, Vlan, Ipv4, HopByHop, Auth, Udp, Tcp}
 use Rattle.rules.specs.declared.kind.Layer.{Layer}
@@ -16,13 +16,14 @@ use Rattle.rules.specs.Rules.{length_of, declared_of, fragment_of, names_of, tur
 use Rattle.rules.specs.Place.{leaves, follow, follow_of, bytes, outcome, read, start, opening}
 use Rattle.rules.specs.Walk.{walk, trace, slices}
 use Rattle.laws.specs.Gather.{gathered, listed}
+use Rattle.rules.specs.declared.refusal.Refusal.{Refusal}
 use Rattle.checksum.specs.declared.Sum16BitWords.{Sum16BitWords}
 use Rattle.checksum.specs.Sum.{total, totals, fold, answer, without_zero, add_slice, add_slices}
 use Rattle.checksum.specs.Laws.{add-slices}
 use Rattle.rules.specs.declared.entry.Entry.TheVariants as E
 use Rattle.slicer.specs.declared.packet.SlicedPacket.{SlicedPacket}
 use Rattle.slicer.specs.Reply.{Ended, accepted, refused, Reply, slots, outcome_on_paper, reply_of}
-use Rattle.chain.specs.Answers.{Sliced}
+use Rattle.chain.specs.Answers.{Sliced, outcome_of, ended_is}
 
 -- ---- bytes
 
@@ -137,9 +138,9 @@ unfolding table ask ◌gives◌ stop short other zeros two ethernet tag ipv4 ipv
 frames_right = refl
 
 -- and so is that of `slice`: what it tells of a frame is what the definitions give
-pub frame_told : (s : List ℕ) (r : SlicedPacket) → Sliced E.Ethernet s r → reply (outcome_on_paper r.outcome) ≡ ask (frame s)
+pub frame_told : (s : List ℕ) (r : Result SlicedPacket Refusal) → Sliced E.Ethernet s r → reply (outcome_on_paper (outcome_of r)) ≡ ask (frame s)
 unfolding ask
-frame_told s r e = ap (λ (p : Reply). reply p.ended) e
+frame_told s r e = ap reply (ended_is r ∙ ap (λ (p : Reply). p.ended) e)
 
 -- ---- and so are the sums: a state that came from `new` by `add_slice` of each slice in order
 

@@ -16,7 +16,7 @@ use Rattle.chain.specs.Chain.{here, later}
 use Rattle.chain.specs.Walked.{means_of}
 use Rattle.chain.specs.OneChain.{not_both_of}
 use Rattle.chain.specs.Frames.{zeros, two, ethernet, tag, ipv4, ipv6, tcp}
-use Rattle.chain.specs.Answers.{outcome}
+use Rattle.chain.specs.Answers.{outcome_of}
 use Rattle.chain.specs.Accepted.{HasChain, AcceptedIffChain}
 use Rattle.chain.specs.Headers.{HeadersInOrder, CountIsLength}
 
@@ -66,18 +66,18 @@ walks E.Ipv6 = (
 
 -- ---- "one that refuses everything (demand 3: a frame with a chain is accepted)"
 
-pub refuses_everything : (entry : Entry) (slice : List ℕ → Result SlicedPacket Refusal) → ((s : List ℕ) → (q : Refusal) × (outcome (slice s) ≡ Err q))
-    → ((s : List ℕ) → AcceptedIffChain entry s (outcome (slice s))) → ⊥
+pub refuses_everything : (entry : Entry) (slice : List ℕ → Result SlicedPacket Refusal) → ((s : List ℕ) → (q : Refusal) × (outcome_of (slice s) ≡ Err q))
+    → ((s : List ℕ) → AcceptedIffChain entry s (outcome_of (slice s))) → ⊥
 refuses_everything entry slice idle true_of =
     let a = (true_of (large entry)).accepts _ _ (walks entry).2.4 in
-    differ (outcome (slice (large entry))) a.1 (idle (large entry)).1
+    differ (outcome_of (slice (large entry))) a.1 (idle (large entry)).1
   where
     differ : (o : Result Ending Refusal) {e : Ending} {q : Refusal} → o ≡ Ok e → o ≡ Err q → ⊥
     differ o a b = let z : ◌≡◌ {A = ℕ} 0 1 = cc in omega arith
 
 -- ---- "one fixed reply .. (demand 3's list, over demand 2's header rules)": accepted once, it would accept a frame with no chain
 
-pub one_fixed_reply : (entry : Entry) (r : Result SlicedPacket Refusal) → ((s : List ℕ) → AcceptedIffChain entry s (outcome r)) → ⊥
+pub one_fixed_reply : (entry : Entry) (r : Result SlicedPacket Refusal) → ((s : List ℕ) → AcceptedIffChain entry s (outcome_of r)) → ⊥
 one_fixed_reply entry r true_of =
     let a = (true_of (large entry)).accepts _ _ (walks entry).2.4 in
     (walks entry).0 _ _ ((true_of (short entry)).chained a.0 a.1).1

@@ -18,7 +18,7 @@ use Rattle.steps.specs.Lists.{header_on_paper, count_on_paper}
 use Rattle.chain.specs.Broken.{BrokenOf}
 use Rattle.chain.specs.Walked.{Walked, whole_walk, broken_walk, walked}
 use Rattle.chain.specs.Given.{broken_reply, broken_header, broken_count}
-use Rattle.chain.specs.Answers.{Sliced, outcome, ended_is, HeaderIs, CountIs}
+use Rattle.chain.specs.Answers.{Sliced, outcome_of, ended_is, HeaderIs, CountIs}
 
 -- the walk of the frame, by its entry, breaks behind the headers hs with the row r
 abbrev pub Breaks : Entry → List ℕ → List HeaderAt → Row → Type 0
@@ -50,8 +50,8 @@ module _ (entry : Entry) (s : List ℕ) {hs : List HeaderAt} {r : Row} (b : Brea
   pub broken→reply : (a : Result SlicedPacket Refusal) → Sliced entry s a → packet_on_paper a ≡ refused_by r
   broken→reply a e = e ∙ broken_reply entry s b
 
-  reply_refused : (a : Result SlicedPacket Refusal) → Sliced entry s a → (q : Refusal) × ((outcome a) ≡ Err q) × (refusal_on_paper q ≡ r)
-  reply_refused a e = is_refused (outcome a) (ended_is a ∙ ap (λ (p : Reply). p.ended) (broken→reply a e))
+  reply_refused : (a : Result SlicedPacket Refusal) → Sliced entry s a → (q : Refusal) × ((outcome_of a) ≡ Err q) × (refusal_on_paper q ≡ r)
+  reply_refused a e = is_refused (outcome_of a) (ended_is a ∙ ap (λ (p : Reply). p.ended) (broken→reply a e))
 
   header_refused : (k : ℕ) (a : Result (Option Header) Refusal) → HeaderIs entry s k a → (q : Refusal) × (a ≡ Err q) × (refusal_on_paper q ≡ r)
   header_refused k a e = is_header_refused a (e ∙ broken_header entry s b k)
@@ -92,7 +92,7 @@ module _ (entry : Entry) (s : List ℕ) (q : Refusal) where
 
 -- ---- every answer of `slice`, `header` and `count` is so
 
-pub reply_refused_for_a_reason : (entry : Entry) (s : List ℕ) (a : Result SlicedPacket Refusal) → Sliced entry s a → RefusedForAReason entry s (λ q. (outcome a) ≡ Err q)
+pub reply_refused_for_a_reason : (entry : Entry) (s : List ℕ) (a : Result SlicedPacket Refusal) → Sliced entry s a → RefusedForAReason entry s (λ q. (outcome_of a) ≡ Err q)
 unfolding reply_of
 reply_refused_for_a_reason entry s a e =
     record {
