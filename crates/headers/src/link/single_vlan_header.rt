@@ -3,8 +3,7 @@ ghost use Rattle.std.specs.Prelude.{◌≡◌, ℕ};
 ghost use Rattle.headers.specs.Says.{read_on_paper, link_says};
 ghost use Rattle.rules.specs.declared.kind.Kind.TheVariants as K;
 
-use crate::too_short;
-use big_endian::be16;
+use crate::link::read_ether_type;
 use rules::{EtherType, Fault, Kind, field, length};
 
 // `VLAN-1`, `VLAN-2`
@@ -12,9 +11,5 @@ pub fn read_vlan(w: &[u8]) -> Result<EtherType, Fault>
     ensures answer { (v : ℕ) → read_on_paper result ≡ link_says K.Vlan v w.now }
     ensures unwritten { w.exit.now ≡ w.entry.now }
 {
-    let have = w.len();
-    if have < length::VLAN {
-        return Err(too_short(Kind::Vlan, length::VLAN, have));
-    }
-    Ok(EtherType(be16(w, field::VLAN_TYPE)))
+    read_ether_type(w, Kind::Vlan, length::VLAN, field::VLAN_TYPE)
 }
