@@ -2,6 +2,7 @@
 use Prim.Native.Nat.{ℕ, ◌+◌, ◌-◌, ◌≤◌}
 use mathlib.Core.Path.{◌≡◌, refl, sym, ap, ◌∙◌}
 use mathlib.Core.List.{List}
+use Rattle.std.specs.Prelude.{None, Some}
 use mathlib.Core.Bool.{Bool, true, false}
 use native.Mathlib.Omega.{arith}
 use lib.ListN.{length}
@@ -21,21 +22,21 @@ use Rattle.rules.specs.Bytes.{part}
 use Rattle.rules.specs.Numbers.{udp_number, tcp_number}
 use Rattle.rules.specs.Test.{pick}
 use Rattle.rules.specs.Rules.{transport, tests_by}
-use Rattle.rules.specs.Place.{place, follow, ending_on_paper}
+use Rattle.rules.specs.Place.{place, entered, follow, ending_on_paper}
 use Rattle.rules.specs.Walk.{HeaderAt, header}
 use Rattle.laws.specs.Gather.{gather, rest_next, rest_halt}
 use Rattle.laws.specs.Parts.{In, stands}
 use Rattle.headers.specs.declared.transport.TransportHeader.{TransportHeader}
-use Rattle.headers.specs.Says.{udp_says, tcp_says}
+use Rattle.one_header.specs.declared.transport.TransportKind.{TransportKind}
+use Rattle.one_header.specs.declared.transport.TransportKind.TheVariants as T
 use Rattle.one_header.specs.declared.transport.TransportTurn.{TransportTurn}
 use Rattle.one_header.specs.declared.transport.TransportTurn.TheVariants as U
-use Rattle.one_header.specs.Turns.{transport_turn_on_paper}
-use Rattle.one_header.specs.At.{Placed, here, refused, placing, here_whole}
+use Rattle.one_header.specs.Turns.{transport_kind_of, transport_turn_on_paper}
+use Rattle.one_header.specs.At.{Placed, here, refused, placing, transport_says, here_whole}
 use Rattle.one_header.specs.Header.{transport_header}
-use Rattle.slicer.specs.declared.packet.TransportPart.TheVariants as P
 use Rattle.slicer.specs.Reply.{Parts, accepted_by, refused_by, slice_way, with_transport, put}
 use Rattle.slicer.specs.Legs.{on_turn, net_room, on_transport, stopped_at, opened_at}
-use Rattle.slicer.proofs.ReadersAt.{Reads, made, whole_is, no, udp-read, tcp-read, toward}
+use Rattle.slicer.proofs.ReadersAt.{Reads, made, whole_is, no, number_by, transport_read, toward}
 
 -- what a number leads to behind the extensions, as transport_turn promises it
 abbrev Turned : TransportTurn → IpNumber → Bool → Type 0
@@ -64,87 +65,71 @@ tcp-number p n e = go p.mark (eqb n udp_number) (eqb n tcp_number) refl e
     go false false true q e = eqb-true _ _ q
     go false false false q e = let z : ◌≡◌ {A = ℕ} 0 1 = cc in absurd (omega arith)
 
+-- the number of what a turn opens
+opened-number : (k : TransportKind) (p : Room) (n : ℕ) → transport p n ≡ Opens (transport_kind_of k) → n ≡ number_by k
+opened-number T.Udp p n e = udp-number p n e
+opened-number T.Tcp p n e = tcp-number p n e
+
+-- a transport header counts as no tag and no IP header, and is put by itself
+entering : (k : TransportKind) (p : Room) → ◌≡◌ {A = Room} (entered (transport_kind_of k) p) p
+entering T.Udp p = refl
+entering T.Tcp p = refl
+
+putting : (k : TransportKind) (f : Parts) (e : HeaderAt) → put (transport_kind_of k) f e ≡ with_transport f (Some (header e))
+putting T.Udp f e = refl
+putting T.Tcp f e = refl
+
 module _ (s : List ℕ) (end : ℕ) (source : RoomSource) (mark : Bool) (named : IpNumber) (at : ℕ) (u : TransportTurn) (ue : Turned u named mark) where
-  by_turn : {v : TransportTurn} → u ≡ v → (f : Parts) (k : Kind) (t i : ℕ) → on_transport s f (net_room k end t i source mark) named at
-      ≡ on_turn s f (transport_turn_on_paper v) (net_room k end t i source mark) at (Ip named)
-  by_turn q f k t i = toward s f (net_room k end t i source mark) at (Ip named) (sym (ue (net_room k end t i source mark) refl) ∙ ap transport_turn_on_paper q)
+  by_turn : {v : TransportTurn} → u ≡ v → (f : Parts) (j : Kind) (t i : ℕ) → on_transport s f (net_room j end t i source mark) named at
+      ≡ on_turn s f (transport_turn_on_paper v) (net_room j end t i source mark) at (Ip named)
+  by_turn q f j t i = toward s f (net_room j end t i source mark) at (Ip named) (sym (ue (net_room j end t i source mark) refl) ∙ ap transport_turn_on_paper q)
 
   -- a stop, where nothing of the transport was found
-  pub unopened : {stop : Stop} → u ≡ U.Stops stop → (f : Parts) (k : Kind) (t i : ℕ) → f.transport ≡ P.Nothing
-      → on_transport s f (net_room k end t i source mark) named at
+  pub unopened : {stop : Stop} → u ≡ U.Stops stop → (f : Parts) (j : Kind) (t i : ℕ) → f.transport ≡ None
+      → on_transport s f (net_room j end t i source mark) named at
       ≡ accepted_by (with_transport f (stopped_at named at end stop).transport) (ending_on_paper (stopped_at named at end stop).ending)
   unfolding on_turn follow
-  unopened q f k t i n = by_turn q f k t i ∙ rest_halt slice_way f s _ ∙ rw (← n) refl
+  unopened q f j t i n = by_turn q f j t i ∙ rest_halt slice_way f s _ ∙ rw (← n) refl
 
-  module _ (a : at ≤ end) (b : end ≤ length s) where
-    framed : (k : Kind) (t i : ℕ) → In s at (net_room k end t i source mark)
-    framed k t i = record { inside = a; room = b }
+  module _ (a : at ≤ end) (b : end ≤ length s) {k : TransportKind} (q : u ≡ U.Opens k)
+      {o : Placed TransportHeader} (e : (v : ℕ) → o ≡ placing (transport_says k v (part s at end)) at source) where
+    framed : (j : Kind) (t i : ℕ) → In s at (net_room j end t i source mark)
+    framed j t i = record { inside = a; room = b }
 
-    -- a header of kind j with the number n, that is read as o says
-    module _ (j : Kind) (n : ℕ) (o : Placed TransportHeader)
-        (read : (k : Kind) (t i : ℕ) → Reads s j at (net_room k end t i source mark) (transport_header o n (end - at) at (net_room k end t i source mark)))
-        (opens : (f : Parts) (k : Kind) (t i : ℕ) → on_transport s f (net_room k end t i source mark) named at
-        ≡ gather slice_way f s (place j at (net_room k end t i source mark)))
-        (puts : (f : Parts) (e : HeaderAt) → put j f e ≡ with_transport f (P.Is (header e))) where
-      at_it : (y : Placed TransportHeader) (k : Kind) (t i : ℕ) → o ≡ y
-          → Reads s j at (net_room k end t i source mark) (transport_header y n (end - at) at (net_room k end t i source mark))
-      at_it y k t i r = made (read k t i) (ap (λ c. transport_header c n (end - at) at (net_room k end t i source mark)) r)
+    opens : (f : Parts) (j : Kind) (t i : ℕ) → on_transport s f (net_room j end t i source mark) named at
+        ≡ gather slice_way f s (place (transport_kind_of k) at (net_room j end t i source mark))
+    unfolding on_turn follow
+    opens f j t i =
+        by_turn q f j t i ∙ rest_next slice_way f s _
+        ∙ ap (λ (p : Room). gather slice_way f s (place (transport_kind_of k) at p)) (entering k (net_room j end t i source mark))
 
-      short : {r : Row} → o ≡ refused r → (f : Parts) (k : Kind) (t i : ℕ) → on_transport s f (net_room k end t i source mark) named at ≡ refused_by r
-      short {r} z f k t i = opens f k t i ∙ no f (at_it (refused r) k t i z)
+    at_it : (y : Placed TransportHeader) (j : Kind) (t i : ℕ) → o ≡ y
+        → Reads s (transport_kind_of k) at (net_room j end t i source mark) (transport_header y (number_by k) (end - at) at (net_room j end t i source mark))
+    at_it y j t i r =
+        made (transport_read (framed j t i) k (e _)) (ap (λ c. transport_header c (number_by k) (end - at) at (net_room j end t i source mark)) r)
 
-      on : {x : TransportHeader} → o ≡ here x → named.0 ≡ n → (f : Parts) (k : Kind) (t i : ℕ)
-          → on_transport s f (net_room k end t i source mark) named at
-          ≡ accepted_by (with_transport f (opened_at named j at x).transport) (ending_on_paper (opened_at named j at x).ending)
+    pub short : {r : Row} → o ≡ refused r → (f : Parts) (j : Kind) (t i : ℕ) → on_transport s f (net_room j end t i source mark) named at ≡ refused_by r
+    short {r} z f j t i = opens f j t i ∙ no f (at_it (refused r) j t i z)
+
+    module _ {x : TransportHeader} (z : o ≡ here x) where
+      pub inside : (x.len ≤ x.end) × (at + x.end ≤ end)
+      unfolding tests_by
+      inside = go k e
+        where
+          go : (k : TransportKind) → ((v : ℕ) → o ≡ placing (transport_says k v (part s at end)) at source) → (x.len ≤ x.end) × (at + x.end ≤ end)
+          go T.Udp e =
+              let y = stands _ (framed Udp 0 0) (here_whole _ at source (sym z ∙ e 0)) in
+              let d = y.0.passed in
+              rw y.1 (omega arith, omega arith)
+          go T.Tcp e =
+              let y = stands _ (framed Tcp 0 0) (here_whole _ at source (sym z ∙ e 0)) in
+              let d = y.0.passed in
+              rw y.1 (omega arith, omega arith)
+
+      pub on : (f : Parts) (j : Kind) (t i : ℕ) → on_transport s f (net_room j end t i source mark) named at
+          ≡ accepted_by (with_transport f (opened_at named (transport_kind_of k) at x).transport) (ending_on_paper (opened_at named (transport_kind_of k) at x).ending)
       unfolding follow
-      on {x} z m f k t i =
+      on f j t i =
           let l : at + x.end - (at + x.len) ≡ x.end - x.len = omega arith in
-          opens f k t i ∙ whole_is f (at_it (here x) k t i z) ∙ rest_halt slice_way _ s _ ∙ rw (puts, l, ← m) refl
-
-    to_udp : u ≡ U.Udp → (f : Parts) (k : Kind) (t i : ℕ) → on_transport s f (net_room k end t i source mark) named at
-        ≡ gather slice_way f s (place Udp at (net_room k end t i source mark))
-    unfolding on_turn follow
-    to_udp q f k t i = by_turn q f k t i ∙ rest_next slice_way f s _
-
-    to_tcp : u ≡ U.Tcp → (f : Parts) (k : Kind) (t i : ℕ) → on_transport s f (net_room k end t i source mark) named at
-        ≡ gather slice_way f s (place Tcp at (net_room k end t i source mark))
-    unfolding on_turn follow
-    to_tcp q f k t i = by_turn q f k t i ∙ rest_next slice_way f s _
-
-    module _ (q : u ≡ U.Udp) {o : Placed TransportHeader} (e : (v : ℕ) → o ≡ placing (udp_says v (part s at end)) at source) where
-      udp_at : (k : Kind) (t i : ℕ) → Reads s Udp at (net_room k end t i source mark) (transport_header o 17 (end - at) at (net_room k end t i source mark))
-      udp_at k t i = udp-read (framed k t i) (e _)
-
-      pub udp-short : {r : Row} → o ≡ refused r → (f : Parts) (k : Kind) (t i : ℕ) → on_transport s f (net_room k end t i source mark) named at ≡ refused_by r
-      udp-short = short Udp 17 o udp_at (to_udp q) (λ f y. refl)
-
-      module _ {x : TransportHeader} (z : o ≡ here x) where
-        pub udp_in : (x.len ≤ x.end) × (at + x.end ≤ end)
-        unfolding tests_by
-        udp_in =
-            let y = stands _ (framed Udp 0 0) (here_whole _ at source (sym z ∙ e 0)) in
-            let d = y.0.passed in
-            rw y.1 (omega arith, omega arith)
-
-        pub udp_on : (f : Parts) (k : Kind) (t i : ℕ) → on_transport s f (net_room k end t i source mark) named at
-            ≡ accepted_by (with_transport f (opened_at named Udp at x).transport) (ending_on_paper (opened_at named Udp at x).ending)
-        udp_on = on Udp 17 o udp_at (to_udp q) (λ f y. refl) z (udp-number (net_room Udp end 0 0 source mark) _ (sym (ue _ refl) ∙ ap transport_turn_on_paper q))
-
-    module _ (q : u ≡ U.Tcp) {o : Placed TransportHeader} (e : (v : ℕ) → o ≡ placing (tcp_says v (part s at end)) at source) where
-      tcp_at : (k : Kind) (t i : ℕ) → Reads s Tcp at (net_room k end t i source mark) (transport_header o 6 (end - at) at (net_room k end t i source mark))
-      tcp_at k t i = tcp-read (framed k t i) (e _)
-
-      pub tcp-short : {r : Row} → o ≡ refused r → (f : Parts) (k : Kind) (t i : ℕ) → on_transport s f (net_room k end t i source mark) named at ≡ refused_by r
-      tcp-short = short Tcp 6 o tcp_at (to_tcp q) (λ f y. refl)
-
-      module _ {x : TransportHeader} (z : o ≡ here x) where
-        pub tcp_in : (x.len ≤ x.end) × (at + x.end ≤ end)
-        unfolding tests_by
-        tcp_in =
-            let y = stands _ (framed Tcp 0 0) (here_whole _ at source (sym z ∙ e 0)) in
-            let d = y.0.passed in
-            rw y.1 (omega arith, omega arith)
-
-        pub tcp_on : (f : Parts) (k : Kind) (t i : ℕ) → on_transport s f (net_room k end t i source mark) named at
-            ≡ accepted_by (with_transport f (opened_at named Tcp at x).transport) (ending_on_paper (opened_at named Tcp at x).ending)
-        tcp_on = on Tcp 6 o tcp_at (to_tcp q) (λ f y. refl) z (tcp-number (net_room Tcp end 0 0 source mark) _ (sym (ue _ refl) ∙ ap transport_turn_on_paper q))
+          let m = opened-number k (net_room j end 0 0 source mark) named.0 (sym (ue _ refl) ∙ ap transport_turn_on_paper q) in
+          opens f j t i ∙ whole_is f (at_it (here x) j t i z) ∙ rest_halt slice_way _ s _ ∙ rw (putting k, l, ← m) refl

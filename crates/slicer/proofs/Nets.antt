@@ -22,16 +22,16 @@ use Rattle.rules.specs.Place.{place, room, follow}
 use Rattle.laws.specs.Gather.{gather, rest_next}
 use Rattle.laws.specs.Parts.{In}
 use Rattle.headers.specs.declared.net.ExtHeader.{ExtHeader}
-use Rattle.headers.specs.Says.{ext_says}
+use Rattle.headers.specs.Says.{ip_says, ext_says}
 use Rattle.one_header.specs.declared.ip.IpFound.{IpFound}
 use Rattle.one_header.specs.declared.ip.IpKind.{IpKind}
 use Rattle.one_header.specs.declared.ip.IpKind.TheVariants as I
-use Rattle.one_header.specs.Turns.{ip_kind_of, chain4_auth, chain4-plain}
-use Rattle.one_header.specs.At.{Placed, here, refused, placing}
+use Rattle.one_header.specs.Turns.{ip_kind_of, sets_of, chain4_auth, chain4-plain}
+use Rattle.one_header.specs.At.{Placed, here, refused, placing, over, setting}
 use Rattle.one_header.specs.Header.{ip_header, ext_header}
 use Rattle.slicer.specs.Reply.{Parts, refused_by, slice_way, with_net, ip_part}
 use Rattle.slicer.specs.declared.net.ExtsFound.{ExtsFound}
-use Rattle.slicer.specs.Legs.{on_turn, on_first, head_of, net_place, net_room, IpAnswer, NetDone, ExtsDone}
+use Rattle.slicer.specs.Legs.{on_turn, on_first, head_of, net_place, net_room, NetDone, ExtsDone}
 use Rattle.slicer.proofs.ReadersAt.{Reads, made, whole_is, no, within, ipv4-read, ipv6-read, auth_read, back, toward}
 
 -- ---- an IP header of either version
@@ -44,9 +44,10 @@ pub record IpRead (s : List ℕ) (k : IpKind) (at end : ℕ) (source : RoomSourc
       → Reads s (ip_kind_of k) at (room end t v i source m) (ip_header o (rule (ip_kind_of k)).version at (room end t v i source m))
 
 pub ip_answer : {s : List ℕ} {at end : ℕ} {source : RoomSource} {o : Placed IpFound} (k : IpKind) → at ≤ end → end ≤ length s
-    → IpAnswer (part s at end) k at source o → IpRead s k at end source o
-ip_answer I.Ipv4 a b e = record { from = a; to = b; reading = λ t v i m. ipv4-read (record { inside = a; room = b }) (e.is v) }
-ip_answer I.Ipv6 a b e = record { from = a; to = b; reading = λ t v i m. ipv6-read (record { inside = a; room = b }) (e.is v) }
+    → ((v : ℕ) → o ≡ placing (over (λ x. setting x (length (part s at end)) (sets_of k) source) (ip_says (ip_kind_of k) v (part s at end))) at source)
+    → IpRead s k at end source o
+ip_answer I.Ipv4 a b e = record { from = a; to = b; reading = λ t v i m. ipv4-read (record { inside = a; room = b }) (e v) }
+ip_answer I.Ipv6 a b e = record { from = a; to = b; reading = λ t v i m. ipv6-read (record { inside = a; room = b }) (e v) }
 
 -- the room that an IP header x of kind k at `at` leaves
 abbrev pub inner : IpKind → ℕ → IpFound → Bool → (t i : ℕ) → Room

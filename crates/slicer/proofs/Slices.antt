@@ -21,7 +21,7 @@ use Rattle.one_header.specs.declared.ip.IpKind.TheVariants as I
 use Rattle.one_header.specs.declared.link.LinkEnd.TheVariants as D
 use Rattle.one_header.specs.Turns.{link_end_on_paper, ip_kind_of}
 use Rattle.slicer.specs.declared.link.LinkFound.{LinkFound}
-use Rattle.slicer.specs.Reply.{nothing, range, slots, accepted_by, Reply, reply_of, slice_way}
+use Rattle.slicer.specs.Reply.{nothing, range, no_header, slots, accepted_by, Reply, reply_of, slice_way}
 use Rattle.slicer.specs.Legs.{on_turn, head_of, tags_from, link_parts, link_room, net_place, ending_by, LinkDone}
 use Rattle.slicer.proofs.ReadersAt.{toward}
 
@@ -52,6 +52,13 @@ slot_filled (suc n) (suc i) a h =
 -- of n tags those below i are in their slots; a turn with a tag left puts it in, one without leaves all as it was
 abbrev pub filled : ℕ → ℕ → List Header
 filled i n = slots tag_limit (tags_from ethernet_length (min i n))
+
+-- a header by default is none
+pub blank : (h : Header) → (h.kind ≡ 0) × ((h.at ≡ 0) × (h.len ≡ 0)) → h ≡ no_header
+blank h e = go h.kind h.at h.len e.0 e.1.0 e.1.1
+  where
+    go : (a b c : ℕ) → a ≡ 0 → b ≡ 0 → c ≡ 0 → ◌≡◌ {A = Header} (record { kind = a; at = b; len = c }) no_header
+    go a b c p q r = cc
 
 pub filled_none : (n : ℕ) → slots tag_limit [] ≡ filled 0 n
 unfolding tags_from

@@ -1,6 +1,6 @@
 -- What each leg of the walk promises: the reply from where it begins is its refusal's, or the reply from where it ends, with
 -- what it found put in.
-use Rattle.std.specs.Prelude.{ℕ, zero, suc, ◌+◌, ◌-◌, ◌≤◌, ◌≡◌, List, [], ◌∷◌, Bool, true, false, length}
+use Rattle.std.specs.Prelude.{ℕ, zero, suc, ◌+◌, ◌-◌, ◌≤◌, ◌≡◌, List, [], ◌∷◌, Bool, true, false, length, Option, None, Some, Result, Ok, Err}
 use Rattle.rules.specs.declared.entry.Entry.{Entry}
 use Rattle.rules.specs.declared.ether_type.EtherType.{EtherType}
 use Rattle.rules.specs.declared.ip_number.IpNumber.{IpNumber}
@@ -14,6 +14,7 @@ use Rattle.rules.specs.declared.place.Number.TheVariants.{Link, Ip}
 use Rattle.rules.specs.declared.place.Place.{Place}
 use Rattle.rules.specs.declared.place.Range.{Range}
 use Rattle.rules.specs.declared.place.Room.{Room}
+use Rattle.rules.specs.declared.refusal.Refusal.{Refusal}
 use Rattle.rules.specs.declared.refusal.Row.{Row}
 use Rattle.rules.specs.declared.stop.Ending.{Ending}
 use Rattle.rules.specs.declared.stop.Stop.{Stop}
@@ -31,24 +32,13 @@ use Rattle.headers.specs.declared.transport.TransportHeader.{TransportHeader}
 use Rattle.headers.specs.Says.{ip_says}
 use Rattle.one_header.specs.declared.ip.IpFound.{IpFound}
 use Rattle.one_header.specs.declared.ip.IpKind.{IpKind}
-use Rattle.one_header.specs.declared.ip.IpKind.TheVariants as I
 use Rattle.one_header.specs.At.{Placed, placing, over, setting}
-use Rattle.one_header.specs.Turns.{ip_kind_of, first_turn, link_end_on_paper}
-use Rattle.slicer.specs.declared.packet.NetPart.{NetPart}
-use Rattle.slicer.specs.declared.packet.TransportPart.{TransportPart}
-use Rattle.slicer.specs.declared.packet.TransportPart.TheVariants as P
+use Rattle.one_header.specs.Turns.{ip_kind_of, sets_of, first_turn, link_end_on_paper}
+use Rattle.slicer.specs.declared.packet.IpPart.{IpPart}
 use Rattle.slicer.specs.declared.link.LinkFound.{LinkFound}
-use Rattle.slicer.specs.declared.link.LinkLeg.{LinkLeg}
-use Rattle.slicer.specs.declared.link.LinkLeg.TheVariants as L
 use Rattle.slicer.specs.declared.net.NetFound.{NetFound}
-use Rattle.slicer.specs.declared.net.NetLeg.{NetLeg}
-use Rattle.slicer.specs.declared.net.NetLeg.TheVariants as N
 use Rattle.slicer.specs.declared.net.ExtsFound.{ExtsFound}
-use Rattle.slicer.specs.declared.net.ExtsLeg.{ExtsLeg}
-use Rattle.slicer.specs.declared.net.ExtsLeg.TheVariants as E
 use Rattle.slicer.specs.declared.transport.TransportFound.{TransportFound}
-use Rattle.slicer.specs.declared.transport.TransportLeg.{TransportLeg}
-use Rattle.slicer.specs.declared.transport.TransportLeg.TheVariants as T
 use Rattle.slicer.specs.Reply.{Parts, nothing, range, with_link, with_net, with_transport, ip_part, Reply, refused_by, accepted_by, slice_way}
 
 -- ---- how a leg ends
@@ -62,21 +52,10 @@ pub data Went {A : Type 0} (P : A → Type 0) (Q : Row → Type 0) : Ends A → 
   went : {x : A} → P x → Went P Q (reached x)
   stuck : {r : Row} → Q r → Went P Q (shut r)
 
-abbrev pub link_leg_on_paper : LinkLeg → Ends LinkFound
-link_leg_on_paper (L.Open x) = reached x
-link_leg_on_paper (L.Refused r) = shut (refusal_on_paper r)
-
-abbrev pub net_leg_on_paper : NetLeg → Ends NetFound
-net_leg_on_paper (N.Open x) = reached x
-net_leg_on_paper (N.Refused r) = shut (refusal_on_paper r)
-
-abbrev pub exts_leg_on_paper : ExtsLeg → Ends ExtsFound
-exts_leg_on_paper (E.Open x) = reached x
-exts_leg_on_paper (E.Refused r) = shut (refusal_on_paper r)
-
-abbrev pub transport_leg_on_paper : TransportLeg → Ends TransportFound
-transport_leg_on_paper (T.Open x) = reached x
-transport_leg_on_paper (T.Refused r) = shut (refusal_on_paper r)
+-- a leg's answer
+abbrev pub leg_on_paper : {A : Type 0} → Result A Refusal → Ends A
+leg_on_paper (Ok x) = reached x
+leg_on_paper (Err r) = shut (refusal_on_paper r)
 
 -- where every leg hands over: the reply from a turn on, at an offset in the room p, with the parts f found before
 unfoldable pub on_turn : List ℕ → Parts → Turn → Room → ℕ → Number → Reply
@@ -93,7 +72,7 @@ abbrev pub ethernet_header : Header
 ethernet_header = record { kind = kind_number Ethernet2; at = 0; len = ethernet_length }
 
 -- the same with what was found behind the link
-abbrev pub parts_of : (linked : Bool) (tags : ℕ) → NetPart → TransportPart → Parts
+abbrev pub parts_of : (linked : Bool) (tags : ℕ) → Option IpPart → Option Header → Parts
 parts_of linked tags net transport =
     record {
       link = pick linked (with_link nothing ethernet_header).link nothing.link;
@@ -105,7 +84,7 @@ parts_of linked tags net transport =
 abbrev pub link_parts : Bool → ℕ → Parts
 link_parts linked tags = parts_of linked tags nothing.net nothing.transport
 
-abbrev pub found_by : LinkFound → NetPart → TransportPart → Parts
+abbrev pub found_by : LinkFound → Option IpPart → Option Header → Parts
 found_by x net transport = parts_of x.linked x.tags net transport
 
 abbrev pub ending_by : Range → Number → Stop → Ending
@@ -163,11 +142,7 @@ abbrev pub Netted : List ℕ → Kind → (at end : ℕ) → RoomSource → Ends
 Netted s k at end source =
     Went (NetDone s k at end source) (λ r. (f : Parts) (t v i : ℕ) (m : Bool) → gather slice_way f s (net_place k at end t v i source m) ≡ refused_by r)
 
--- an IP header at a place, as `one_header` answers it; its room, where it declares one, is the header's own
-abbrev pub sets_of : IpKind → RoomSource
-sets_of I.Ipv4 = S.Ipv4
-sets_of I.Ipv6 = S.Ipv6
-
+-- an IP header at a place, as `one_header` answers it
 pub record IpAnswer (w : List ℕ) (k : IpKind) (at : ℕ) (source : RoomSource) (o : Placed IpFound) : Type 0 where
   pub is : (v : ℕ) → o ≡ placing (over (λ x. setting x (length w) (sets_of k) source) (ip_says (ip_kind_of k) v w)) at source
 
@@ -197,18 +172,18 @@ Extended s k begin from end source marked =
 
 abbrev pub stopped_at : IpNumber → ℕ → ℕ → Stop → TransportFound
 stopped_at number at end stop =
-    record { ending = ending_by (range at (end - at)) (Ip number) stop; transport = P.Nothing }
+    record { ending = ending_by (range at (end - at)) (Ip number) stop; transport = None }
 
 abbrev pub opened_at : IpNumber → Kind → ℕ → TransportHeader → TransportFound
 opened_at number k at x =
     record {
       ending = ending_by (range (at + x.len) (x.end - x.len)) (Ip number) Z.TransportRead;
-      transport = P.Is (head_of k at x.len);
+      transport = Some (head_of k at x.len);
     }
 
 abbrev pub Carried : List ℕ → ℕ → RoomSource → Bool → IpNumber → ℕ → Ends TransportFound → Type 0
 Carried s end source mark number at =
     Went
-    (λ x. (f : Parts) (k : Kind) (t i : ℕ) → f.transport ≡ P.Nothing
+    (λ x. (f : Parts) (k : Kind) (t i : ℕ) → f.transport ≡ None
     → on_transport s f (net_room k end t i source mark) number at ≡ accepted_by (with_transport f x.transport) (ending_on_paper x.ending))
     (λ r. (f : Parts) (k : Kind) (t i : ℕ) → on_transport s f (net_room k end t i source mark) number at ≡ refused_by r)

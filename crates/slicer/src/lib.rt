@@ -9,6 +9,5 @@ pub mod packet;
 mod transport;
 mod walk;
 
-pub use options::OptionsPart;
-pub use packet::{IpPart, LinkPart, NetPart, Outcome, SlicedPacket, TransportPart};
+pub use packet::{IpPart, SlicedPacket};
 pub use walk::slice;

@@ -2,13 +2,10 @@
 // room that its header stands in.
 ghost use Rattle.std.specs.Prelude.{◌≤◌, length};
 ghost use Rattle.rules.specs.declared.kind.Kind.TheVariants as K;
-ghost use Rattle.one_header.specs.At.{ip_at_on_paper};
 ghost use Rattle.one_header.specs.Turns.{ip_kind_of};
-ghost use Rattle.slicer.specs.Legs.{IpAnswer, Netted, net_leg_on_paper, Extended, exts_leg_on_paper};
+ghost use Rattle.slicer.specs.Legs.{Extended, Netted, leg_on_paper};
 
-use one_header::{
-    ExtAt, ExtKind, ExtTurn, IpAt, IpKind, ext_at, ext_turn, ipv4_at, ipv6_at, opens_auth,
-};
+use one_header::{ExtKind, ExtTurn, IpKind, ext_at, ext_turn, ip_at, opens_auth};
 use rules::{ChainPlace, IpNumber, Kind, Refusal, RoomSource};
 
 // An IP header, where its extensions end and its room ends, and the number that names what follows.
@@ -24,24 +21,12 @@ pub struct NetFound {
     pub mark: bool,
 }
 
-#[derive(Clone, Copy)]
-pub enum NetLeg {
-    Open(NetFound),
-    Refused(Refusal),
-}
-
 // Where an extension chain ends.
 #[derive(Clone, Copy)]
 pub struct ExtsFound {
     pub at: usize,
     pub number: IpNumber,
     pub mark: bool,
-}
-
-#[derive(Clone, Copy)]
-pub enum ExtsLeg {
-    Open(ExtsFound),
-    Refused(Refusal),
 }
 
 // IPv4 opens AUTH at most, and once.
@@ -52,33 +37,23 @@ fn ipv4_exts_slice(
     end: usize,
     source: RoomSource,
     marked: bool,
-) -> ExtsLeg
+) -> Result<ExtsFound, Refusal>
     requires { (from ≤ end) × (end ≤ length s.now) }
-    ensures { Extended s.now K.Ipv4 begin from end source marked (exts_leg_on_paper result) }
+    ensures { Extended s.now K.Ipv4 begin from end source marked (leg_on_paper result) }
 {
     if !opens_auth(begin) {
-        return ExtsLeg::Open(ExtsFound {
+        return Ok(ExtsFound {
             at: from,
             number: begin,
             mark: marked,
         });
     }
-    let read = ext_at(&s[from..end], ExtKind::Auth, from, source);
-    match read {
-        ExtAt::Refused(refusal) => {
-            return ExtsLeg::Refused(refusal);
-        }
-        ExtAt::Whole(x) => {
-            let fragment = x.fragment;
-            let number = x.names;
-            let at = from + x.len;
-            return ExtsLeg::Open(ExtsFound {
-                at,
-                number,
-                mark: fragment.marks(marked),
-            });
-        }
-    }
+    let x = ext_at(&s[from..end], ExtKind::Auth, from, source)?;
+    Ok(ExtsFound {
+        at: from + x.len,
+        number: x.names,
+        mark: x.fragment.marks(marked),
+    })
 }
 
 // A loop, so that the stack does not grow with the chain.
@@ -89,37 +64,28 @@ fn ipv6_exts_slice(
     end: usize,
     source: RoomSource,
     marked: bool,
-) -> ExtsLeg
+) -> Result<ExtsFound, Refusal>
     requires { (from ≤ end) × (end ≤ length s.now) }
-    ensures { Extended s.now K.Ipv6 begin from end source marked (exts_leg_on_paper result) }
+    ensures { Extended s.now K.Ipv6 begin from end source marked (leg_on_paper result) }
 {
     let mut number = begin;
     let mut at = from;
     let mut mark = marked;
     let mut place = ChainPlace::Directly;
     loop {
-        let turn = ext_turn(number, place);
-        match turn {
+        match ext_turn(number, place) {
             ExtTurn::Opens(kind) => {
-                let read = ext_at(&s[at..end], kind, at, source);
-                match read {
-                    ExtAt::Refused(refusal) => {
-                        return ExtsLeg::Refused(refusal);
-                    }
-                    ExtAt::Whole(x) => {
-                        let fragment = x.fragment;
-                        number = x.names;
-                        at = at + x.len;
-                        mark = fragment.marks(mark);
-                        place = ChainPlace::Later;
-                    }
-                }
+                let x = ext_at(&s[at..end], kind, at, source)?;
+                number = x.names;
+                at += x.len;
+                mark = x.fragment.marks(mark);
+                place = ChainPlace::Later;
             }
             ExtTurn::LateHopByHop => {
-                return ExtsLeg::Refused(Refusal::HopByHopNotAtStart { offset: at });
+                return Err(Refusal::HopByHopNotAtStart { offset: at });
             }
             ExtTurn::Ends => {
-                return ExtsLeg::Open(ExtsFound { at, number, mark });
+                return Ok(ExtsFound { at, number, mark });
             }
         }
     }
@@ -134,9 +100,9 @@ fn ip_exts_slice(
     end: usize,
     source: RoomSource,
     marked: bool,
-) -> ExtsLeg
+) -> Result<ExtsFound, Refusal>
     requires { (from ≤ end) × (end ≤ length s.now) }
-    ensures { Extended s.now (ip_kind_of kind) begin from end source marked (exts_leg_on_paper result) }
+    ensures { Extended s.now (ip_kind_of kind) begin from end source marked (leg_on_paper result) }
 {
     match kind {
         IpKind::Ipv4 => ipv4_exts_slice(s, begin, from, end, source, marked),
@@ -144,50 +110,28 @@ fn ip_exts_slice(
     }
 }
 
-fn ip_at(w: &[u8], kind: IpKind, at: usize, source: RoomSource) -> IpAt
-    ensures { IpAnswer w.now kind at source (ip_at_on_paper result) }
-{
-    match kind {
-        IpKind::Ipv4 => ipv4_at(w, at, source),
-        IpKind::Ipv6 => ipv6_at(w, at, source),
-    }
-}
-
-pub fn slice_ip(s: &[u8], kind: IpKind, at: usize, end: usize, source: RoomSource) -> NetLeg
+pub fn slice_ip(
+    s: &[u8],
+    kind: IpKind,
+    at: usize,
+    end: usize,
+    source: RoomSource,
+) -> Result<NetFound, Refusal>
     requires { (at ≤ end) × (end ≤ length s.now) }
-    ensures { Netted s.now (ip_kind_of kind) at end source (net_leg_on_paper result) }
+    ensures { Netted s.now (ip_kind_of kind) at end source (leg_on_paper result) }
 {
-    let read = ip_at(&s[at..end], kind, at, source);
-    match read {
-        IpAt::Refused(refusal) => {
-            return NetLeg::Refused(refusal);
-        }
-        IpAt::Whole(x) => {
-            let from = at + x.len;
-            let inner = at + x.end;
-            let sets = x.source;
-            let begin = x.names;
-            let fragment = x.fragment;
-            let mark = fragment.marks(false);
-            let leg = ip_exts_slice(s, kind, begin, from, inner, sets, mark);
-            match leg {
-                ExtsLeg::Refused(refusal) => {
-                    return NetLeg::Refused(refusal);
-                }
-                ExtsLeg::Open(found) => {
-                    let number = found.number;
-                    return NetLeg::Open(NetFound {
-                        kind: kind.kind(),
-                        begin: at,
-                        len: x.len,
-                        at: found.at,
-                        end: inner,
-                        source: sets,
-                        number,
-                        mark: found.mark,
-                    });
-                }
-            }
-        }
-    }
+    let x = ip_at(&s[at..end], kind, at, source)?;
+    let inner = at + x.end;
+    let mark = x.fragment.marks(false);
+    let exts = ip_exts_slice(s, kind, x.names, at + x.len, inner, x.source, mark)?;
+    Ok(NetFound {
+        kind: Kind::from(kind),
+        begin: at,
+        len: x.len,
+        at: exts.at,
+        end: inner,
+        source: x.source,
+        number: exts.number,
+        mark: exts.mark,
+    })
 }

@@ -1,22 +1,15 @@
 // The transport leg: a UDP or TCP header, or why none is opened.
 ghost use Rattle.std.specs.Prelude.{◌≡◌, ◌+◌, ◌≤◌, ◌<◌, ◌^◌, length};
-ghost use Rattle.slicer.specs.Legs.{Carried, transport_leg_on_paper, stopped_at, opened_at};
+ghost use Rattle.slicer.specs.Legs.{Carried, leg_on_paper, opened_at, stopped_at};
 
-use crate::packet::TransportPart;
 use headers::TransportHeader;
-use one_header::{TransportAt, TransportTurn, stop_behind, tcp_at, transport_turn, udp_at};
+use one_header::{TransportTurn, stop_behind, transport_at, transport_turn};
 use rules::{Ending, Header, IpNumber, Kind, Number, Range, Refusal, RoomSource, Stop};
 
 #[derive(Clone, Copy)]
 pub struct TransportFound {
     pub ending: Ending,
-    pub transport: TransportPart,
-}
-
-#[derive(Clone, Copy)]
-pub enum TransportLeg {
-    Open(TransportFound),
-    Refused(Refusal),
+    pub transport: Option<Header>,
 }
 
 // The payload runs to the room's end.
@@ -24,14 +17,13 @@ fn unopened(number: IpNumber, at: usize, end: usize, stop: Stop) -> TransportFou
     requires { at ≤ end }
     ensures { result ≡ stopped_at number at end stop }
 {
-    let payload = Range { at, len: end - at };
     TransportFound {
         ending: Ending {
-            payload,
+            payload: Range { at, len: end - at },
             number: Number::Ip(number),
             stop,
         },
-        transport: TransportPart::Nothing,
+        transport: None,
     }
 }
 
@@ -39,22 +31,20 @@ fn opened(number: IpNumber, kind: Kind, at: usize, x: TransportHeader) -> Transp
     requires { (x.len ≤ x.end) × (at + x.end < 2 ^ 64) }
     ensures { result ≡ opened_at number kind at x }
 {
-    let payload = Range {
-        at: at + x.len,
-        len: x.end - x.len,
-    };
-    let header = Header {
-        kind: kind.number(),
-        at,
-        len: x.len,
-    };
     TransportFound {
         ending: Ending {
-            payload,
+            payload: Range {
+                at: at + x.len,
+                len: x.end - x.len,
+            },
             number: Number::Ip(number),
             stop: stop_behind(),
         },
-        transport: TransportPart::Is(header),
+        transport: Some(Header {
+            kind: kind.number(),
+            at,
+            len: x.len,
+        }),
     }
 }
 
@@ -65,26 +55,15 @@ pub fn slice_transport(
     end: usize,
     source: RoomSource,
     mark: bool,
-) -> TransportLeg
+) -> Result<TransportFound, Refusal>
     requires { (at ≤ end) × (end ≤ length s.now) }
-    ensures { Carried s.now end source mark number at (transport_leg_on_paper result) }
+    ensures { Carried s.now end source mark number at (leg_on_paper result) }
 {
-    let turn = transport_turn(number, mark);
-    match turn {
-        TransportTurn::Stops(stop) => TransportLeg::Open(unopened(number, at, end, stop)),
-        TransportTurn::Udp => {
-            let read = udp_at(&s[at..end], at, source);
-            match read {
-                TransportAt::Refused(refusal) => TransportLeg::Refused(refusal),
-                TransportAt::Whole(x) => TransportLeg::Open(opened(number, Kind::Udp, at, x)),
-            }
-        }
-        TransportTurn::Tcp => {
-            let read = tcp_at(&s[at..end], at, source);
-            match read {
-                TransportAt::Refused(refusal) => TransportLeg::Refused(refusal),
-                TransportAt::Whole(x) => TransportLeg::Open(opened(number, Kind::Tcp, at, x)),
-            }
+    match transport_turn(number, mark) {
+        TransportTurn::Stops(stop) => Ok(unopened(number, at, end, stop)),
+        TransportTurn::Opens(kind) => {
+            let x = transport_at(&s[at..end], kind, at, source)?;
+            Ok(opened(number, Kind::from(kind), at, x))
         }
     }
 }

@@ -1,8 +1,8 @@
 -- `net::ipv4_exts_slice` meets its contract. Assumes nothing.
+use Rattle.slicer.proofs.Answers.{handed_on}
 use Rattle.slicer.proofs.Nets.{begun, auth_none, auth_short, auth_in, auth_done}
-use Rattle.slicer.specs.Legs.{went, stuck}
-use Rattle.one_header.specs.At.{ext_at_on_paper}
-use mathlib.Core.Path.{ap}
+use Rattle.slicer.specs.Legs.{went}
+use mathlib.Core.Path.{refl}
 use native.Mathlib.Omega.{arith}
 use Rattle.slicer.proofs.net.ipv4_exts_slice.Goals as goal
 
@@ -10,19 +10,18 @@ pub returns-then-not-opens_auth : goal.returns-then-not-opens_auth
 returns-then-not-opens_auth c =
     went (auth_none (begun _ _ _ _ _ _ c.requires.0 c.requires.1) c.opens_auth.ensures c.if-not-opens_auth.true)
 
-pub returns-in-Refused : goal.returns-in-Refused
-returns-in-Refused c =
-    stuck (auth_short (begun _ _ _ _ _ _ c.requires.0 c.requires.1) c.opens_auth.ensures c.if-not-opens_auth.false c.ext_at-read.ensures.answer
-    (ap ext_at_on_paper c.in-Refused.is))
+pub returns-in_err-x : goal.returns-in_err-x
+returns-in_err-x c =
+    handed_on _ _ c.from_residual.ensures.1
+    (auth_short (begun _ _ _ _ _ _ c.requires.0 c.requires.1) c.opens_auth.ensures c.if-not-opens_auth.false c.in_err-x.ensures.answer refl)
 
-pub overflow_add-at : goal.overflow_add-at
-overflow_add-at c =
+pub overflow_add-result : goal.overflow_add-result
+overflow_add-result c =
     let a = c.args in
     let w = begun a.s.now a.begin a.from a.end a.source a.marked c.requires.0 c.requires.1 in
-    let y = auth_in w c.opens_auth.ensures c.if-not-opens_auth.false c.ext_at-read.ensures.answer (ap ext_at_on_paper c.in-Whole.is) in
-    omega (arith, y, c.requires.1)
+    omega (arith, auth_in w c.opens_auth.ensures c.if-not-opens_auth.false c.in_ok-x.ensures.answer refl, c.requires.1)
 
-pub returns-in-Whole : goal.returns-in-Whole
-returns-in-Whole c =
-    went (auth_done (begun _ _ _ _ _ _ c.requires.0 c.requires.1) c.opens_auth.ensures c.if-not-opens_auth.false c.ext_at-read.ensures.answer
-    (ap ext_at_on_paper c.in-Whole.is) c.marks.ensures)
+pub returns : goal.returns
+returns c =
+    went (auth_done (begun _ _ _ _ _ _ c.requires.0 c.requires.1) c.opens_auth.ensures c.if-not-opens_auth.false c.in_ok-x.ensures.answer refl
+    c.marks.ensures)

@@ -1,34 +1,32 @@
 -- `net::slice_ip` meets its contract. Assumes nothing.
 use Rattle.slicer.proofs.Nets.{ip_answer, ip_short, ip_in, ip_done, ip_stuck}
-use Rattle.slicer.proofs.Answers.{there, turned}
-use Rattle.slicer.specs.Legs.{went, stuck, exts_leg_on_paper}
-use Rattle.one_header.specs.At.{ip_at_on_paper}
-use mathlib.Core.Path.{ap}
+use Rattle.slicer.proofs.Answers.{there, turned, handed_on}
+use Rattle.slicer.specs.Legs.{went}
+use mathlib.Core.Path.{refl}
 use native.Mathlib.Omega.{arith}
 use Rattle.slicer.proofs.net.slice_ip.Goals as goal
 
-pub returns-in-Refused : goal.returns-in-Refused
-returns-in-Refused c =
-    stuck (ip_short (ip_answer _ c.requires.0 c.requires.1 c.ip_at-read.ensures) (ap ip_at_on_paper c.in-Refused.is))
-
-pub overflow_add-from : goal.overflow_add-from
-overflow_add-from c =
-    let z = ip_in (ip_answer _ c.requires.0 c.requires.1 c.ip_at-read.ensures) (ap ip_at_on_paper c.in-Whole.is) in omega (arith, z.0, z.1, z.2)
+pub returns-in_err-x : goal.returns-in_err-x
+returns-in_err-x c =
+    handed_on _ _ c.from_residual.ensures.1 (ip_short (ip_answer _ c.requires.0 c.requires.1 c.in_err-x.ensures.answer) refl)
 
 pub overflow_add-inner : goal.overflow_add-inner
 overflow_add-inner c =
-    let z = ip_in (ip_answer _ c.requires.0 c.requires.1 c.ip_at-read.ensures) (ap ip_at_on_paper c.in-Whole.is) in omega (arith, z.0, z.1, z.2)
+    let z = ip_in (ip_answer _ c.requires.0 c.requires.1 c.in_ok-x.ensures.answer) refl in omega (arith, z.0, z.1, z.2)
 
-pub ip_exts_slice-leg-requires : goal.ip_exts_slice-leg-requires
-ip_exts_slice-leg-requires c =
-    let z = ip_in (ip_answer _ c.requires.0 c.requires.1 c.ip_at-read.ensures) (ap ip_at_on_paper c.in-Whole.is) in (z.0, omega (arith, z.1, z.2))
+pub overflow_add-at : goal.overflow_add-at
+overflow_add-at c =
+    let z = ip_in (ip_answer _ c.requires.0 c.requires.1 c.in_ok-x.ensures.answer) refl in omega (arith, z.0, z.1, z.2)
 
-pub returns-in-Refused-leg : goal.returns-in-Refused-leg
-returns-in-Refused-leg c =
-    stuck (ip_stuck (ip_answer _ c.requires.0 c.requires.1 c.ip_at-read.ensures) (ap ip_at_on_paper c.in-Whole.is) c.marks-mark.ensures
-    (turned c.ip_exts_slice-leg.ensures (ap exts_leg_on_paper c.in-Refused-leg.is)))
+pub ip_exts_slice-requires : goal.ip_exts_slice-requires
+ip_exts_slice-requires c =
+    let z = ip_in (ip_answer _ c.requires.0 c.requires.1 c.in_ok-x.ensures.answer) refl in (z.0, omega (arith, z.1, z.2))
 
-pub returns-in-Open : goal.returns-in-Open
-returns-in-Open c =
-    went (ip_done (ip_answer _ c.requires.0 c.requires.1 c.ip_at-read.ensures) (ap ip_at_on_paper c.in-Whole.is) c.marks-mark.ensures
-    c.kind.ensures (there c.ip_exts_slice-leg.ensures (ap exts_leg_on_paper c.in-Open.is)))
+pub returns-in_err-exts : goal.returns-in_err-exts
+returns-in_err-exts c =
+    handed_on _ _ c.from_residual-in_err-exts.ensures.1
+    (ip_stuck (ip_answer _ c.requires.0 c.requires.1 c.in_ok-x.ensures.answer) refl c.marks-mark.ensures (turned c.in_err-exts.ensures))
+
+pub returns : goal.returns
+returns c =
+    went (ip_done (ip_answer _ c.requires.0 c.requires.1 c.in_ok-x.ensures.answer) refl c.marks-mark.ensures c.from.ensures (there c.in_ok-exts.ensures))

@@ -1,5 +1,5 @@
 -- `walk::tag_headers` meets its contract. Assumes nothing.
-use Rattle.slicer.proofs.Slices.{filled_none, filled_next, filled_last}
+use Rattle.slicer.proofs.Slices.{blank, filled_none, filled_next, filled_last}
 use Rattle.slicer.specs.Reply.{slots}
 use Rattle.slicer.specs.Legs.{tags_from}
 use mathlib.Core.Path.{refl, ◌∙◌}
@@ -10,7 +10,7 @@ use Rattle.slicer.proofs.walk.tag_headers.Goals.{then-i-count, else-i-count}
 pub loop-i-init : goal.loop-i-init
 unfolding slots tags_from
 loop-i-init c =
-    (omega arith, refl, rw c.no_header-tags.ensures (filled_none c.args.count), c.number-kind.ensures)
+    (omega arith, refl, rw (blank c.default-tags.result c.default-tags.ensures) (filled_none c.args.count), c.number-kind.ensures)
 
 pub loop-i-preserved : goal.loop-i-preserved
 loop-i-preserved c = (

@@ -1,34 +1,24 @@
 -- `packet::SlicedPacket::tcp_options` meets its contract. Assumes nothing.
-use Rattle.slicer.specs.Options.{no_header, not_tcp, begins_outside, ends_outside, too_small, there}
-use mathlib.Core.Path.{sym, ◌∙◌}
+use Rattle.std.proofs.Common.{rules}
+use Rattle.slicer.specs.Options.{options_of}
 use Rattle.slicer.proofs.packet.SlicedPacket.tcp_options.Goals as goal
 
-pub returns-in_default-clause-answer : goal.returns-in_default-clause-answer
-returns-in_default-clause-answer c =
-    let z = no_header _ (sym c.in_default.is) in
-    z.0
+pub returns-in_err-header-clause-answer : goal.returns-in_err-header-clause-answer
+unfolding options_of
+returns-in_err-header-clause-answer c = search rules
+
+pub returns-in_err-checked_sub-clause-answer : goal.returns-in_err-checked_sub-clause-answer
+unfolding options_of
+returns-in_err-checked_sub-clause-answer c = search rules
 
 pub returns-then-header-number-clause-answer : goal.returns-then-header-number-clause-answer
-returns-then-header-number-clause-answer c =
-    let z = not_tcp _ (sym c.in-Is.is) (λ q. c.if-header-number.true (q ∙ sym c.number.ensures)) in
-    z.0
+unfolding options_of
+returns-then-header-number-clause-answer c = search rules
 
-pub returns-then-s-at-clause-answer : goal.returns-then-s-at-clause-answer
-returns-then-s-at-clause-answer c =
-    let z = begins_outside _ (sym c.in-Is.is) (c.if-header-number.false ∙ c.number.ensures) c.if-s-at.true in
-    z.0
-
-pub returns-then-s-at-2-clause-answer : goal.returns-then-s-at-2-clause-answer
-returns-then-s-at-2-clause-answer c =
-    let z = ends_outside _ (sym c.in-Is.is) (c.if-header-number.false ∙ c.number.ensures) c.if-s-at.false c.if-s-at-2.true in
-    z.0
-
-pub returns-then-len-lt-TCP-clause-answer : goal.returns-then-len-lt-TCP-clause-answer
-returns-then-len-lt-TCP-clause-answer c =
-    let z = too_small _ (sym c.in-Is.is) (c.if-header-number.false ∙ c.number.ensures) c.if-s-at.false c.if-s-at-2.false c.if-len-lt-TCP.true in
-    z.0
+pub returns-in_err-checked_sub-2-clause-answer : goal.returns-in_err-checked_sub-2-clause-answer
+unfolding options_of
+returns-in_err-checked_sub-2-clause-answer c = search rules
 
 pub returns-clause-answer : goal.returns-clause-answer
-returns-clause-answer c =
-    let z = there _ (sym c.in-Is.is) (c.if-header-number.false ∙ c.number.ensures) c.if-s-at.false c.if-s-at-2.false c.if-len-lt-TCP.false in
-    z.0
+unfolding options_of
+returns-clause-answer c = search rules
