@@ -21,7 +21,7 @@ returns-then-number-eq-NOOP c =
     (record {
       inside = c.if-s-at.false;
       byte = c.byte-number.ensures.answer;
-      names = c.kind_of-kind.ensures;
+      names = c.from-kind.ensures;
       not0 = c.if-number-eq-END.false;
     })
     c.if-number-eq-NOOP.true))
@@ -34,7 +34,7 @@ returns-then-have-lt-LEN_LEAST c =
     (record {
       inside = c.if-s-at.false;
       byte = c.byte-number.ensures.answer;
-      names = c.kind_of-kind.ensures;
+      names = c.from-kind.ensures;
       not0 = c.if-number-eq-END.false;
     })
     c.if-number-eq-NOOP.false
@@ -48,7 +48,7 @@ returns-then-not-length_is_sound c =
     (record {
       inside = c.if-s-at.false;
       byte = c.byte-number.ensures.answer;
-      names = c.kind_of-kind.ensures;
+      names = c.from-kind.ensures;
       not0 = c.if-number-eq-END.false;
     })
     c.if-number-eq-NOOP.false
@@ -65,7 +65,7 @@ returns-then-not-size_is_right c =
     (record {
       inside = c.if-s-at.false;
       byte = c.byte-number.ensures.answer;
-      names = c.kind_of-kind.ensures;
+      names = c.from-kind.ensures;
       not0 = c.if-number-eq-END.false;
     })
     c.if-number-eq-NOOP.false
@@ -82,7 +82,7 @@ returns c =
     (record {
       inside = c.if-s-at.false;
       byte = c.byte-number.ensures.answer;
-      names = c.kind_of-kind.ensures;
+      names = c.from-kind.ensures;
       not0 = c.if-number-eq-END.false;
     })
     c.if-number-eq-NOOP.false
