@@ -4,7 +4,8 @@ use mathlib.Core.Path.{◌≡◌, refl, sym, ◌∙◌}
 use mathlib.Core.List.{List}
 use native.Mathlib.Omega.{arith}
 use lib.ListN.{length, drop, length-drop}
-use Rattle.tcp_options.specs.Options.{OptionRead, lists, ends, refuses, read, Listed, Ending, options, is, ending_answer, option_of, answer_by}
+use Rattle.tcp_options.specs.Options.{OptionRead, lists, ends, refuses, read, Listed, Ending, options, is, no-more, refusal, ended, refused, ending_answer, option_of, answer_by}
+use Rattle.tcp_options.specs.declared.answer.OptionRow.{OptionRow}
 use Rattle.tcp_options.specs.OneOption.{lists_fits, from, from_lists, from-ends, from_refuses}
 use Rattle.tcp_options.specs.Order.{not_is}
 
@@ -29,7 +30,7 @@ module _ {s : List ℕ} {k at passed : ℕ} (g : Going s k at passed) where
       go (refuses n) e = rw (from_refuses s at n e)
 
   -- the options end before it, and so they do at each later place
-  pub going_last : (x : Ending) → ending_answer x ≡ answer_by at (read (drop at s)) → ending_answer x ≡ option_of (options s) k
+  going_last : (x : Ending) → ending_answer x ≡ answer_by at (read (drop at s)) → ending_answer x ≡ option_of (options s) k
   unfolding option_of
   going_last x e = go (read (drop at s)) refl e ∙ g.same
     where
@@ -37,6 +38,12 @@ module _ {s : List ℕ} {k at passed : ℕ} (g : Going s k at passed) where
       go (lists kind size) p e = absurd (not_is x e)
       go ends p e = rw (from-ends s at p) e
       go (refuses n) p e = rw (from_refuses s at n p) e
+
+  pub going_ended : no-more ≡ answer_by at (read (drop at s)) → option_of (options s) k ≡ no-more
+  going_ended e = sym (going_last (ended at) e)
+
+  pub going_refused : (r : OptionRow) → refusal r ≡ answer_by at (read (drop at s)) → option_of (options s) k ≡ refusal r
+  going_refused r e = sym (going_last (refused r) e)
 
   -- an option was read
   module _ {o : Listed} (e : is o ≡ answer_by at (read (drop at s))) where
@@ -56,9 +63,12 @@ module _ {s : List ℕ} {k at passed : ℕ} (g : Going s k at passed) where
         let i = g.inside in
         omega arith
 
-    -- the next one is looked for behind it
-    pub going_on : passed < k → Going s k (at + o.size) (passed + 1)
+    -- the next one is looked for behind it, by its size n
+    pub going_on : passed < k → (n : ℕ) → n ≡ o.size → Going s k (at + n) (passed + 1)
     unfolding option_of
-    going_on h =
+    going_on h n i =
         let z : k - passed ≡ suc (k - (passed + 1)) = omega arith in
-        record { inside = going_fits; same = rw (from_lists s at o.kind o.size it_lists, z) at g.same }
+        rw i (record { inside = going_fits; same = rw (from_lists s at o.kind o.size it_lists, z) at g.same })
+
+-- by these the check finds the proof of `option`
+pub ruleset going = (going_first, going_there, going_ended, going_refused, going_fits, going_on)

@@ -31,49 +31,45 @@ unfolding read_kind
 read_end s at h e = read_some s at h ∙ rw (eq-eqb _ end_of_list e)
 
 -- a kind of another number, at a byte that is left
-pub record At (s : List ℕ) (at n : ℕ) (kind : Kind) : Type 0 where
-  pub inside : at < length s
-  pub byte : n ≡ byte_at s at
-  pub names : kind ≡ named n
-  pub not0 : n ≡ end_of_list → ⊥
-
-module _ {s : List ℕ} {at n : ℕ} {kind : Kind} (a : At s at n kind) where
+module _ (s : List ℕ) (at : ℕ) (inside : at < length s) (not0 : byte_at s at ≡ end_of_list → ⊥) where
   -- kind 1
-  pub read-noop : n ≡ noop → read (drop at s) ≡ lists kind noop_size
+  pub read-noop : byte_at s at ≡ noop → read (drop at s) ≡ lists (named (byte_at s at)) noop_size
   unfolding read_kind
-  read-noop e = read_some s at a.inside ∙ rw (a.names, ← a.byte, e)
+  read-noop e = read_some s at inside ∙ rw (ne_eqb (byte_at s at) end_of_list not0, eq-eqb (byte_at s at) noop e)
 
-  module _ (not1 : n ≡ noop → ⊥) where
-    long : read (drop at s) ≡ read_long kind (drop (suc at) s)
+  module _ (not1 : byte_at s at ≡ noop → ⊥) where
+    long : read (drop at s) ≡ read_long (named (byte_at s at)) (drop (suc at) s)
     unfolding read_kind
-    long = read_some s at a.inside ∙ rw (a.names, ← a.byte, ne_eqb n end_of_list a.not0, ne_eqb n noop not1)
+    long = read_some s at inside ∙ rw (ne_eqb (byte_at s at) end_of_list not0, ne_eqb (byte_at s at) noop not1)
 
     -- no length byte
     pub read_no_length : length s - at < 2 → read (drop at s) ≡ refuses no_length_byte
     unfolding read_long
-    read_no_length h = let z : length s ≤ suc at = omega (arith, a.inside) in long ∙ rw (drop_of_length-le s z)
+    read_no_length h = let z : length s ≤ suc at = omega arith in long ∙ rw (drop_of_length-le s z)
 
     -- a length byte, and what is there from the option's kind on
-    sized : 2 ≤ length s - at → read (drop at s) ≡ read_sized kind (byte_at s (at + 1)) (length s - at)
-    unfolding read_long
-    sized h =
-        let z : suc at < length s = omega arith in
-        let have : length (drop (suc (suc at)) s) + 2 ≡ length s - at = rw length-drop (omega arith) in
-        long ∙ rw (drop-cons s (suc at) 0, have, add-one)
+    module _ (there : 2 ≤ length s - at) where
+      sized : read (drop at s) ≡ read_sized (named (byte_at s at)) (byte_at s (at + 1)) (length s - at)
+      unfolding read_long
+      sized =
+          let z : suc at < length s = omega arith in
+          let have : length (drop (suc (suc at)) s) + 2 ≡ length s - at = rw length-drop (omega arith) in
+          long ∙ rw (drop-cons s (suc at) 0, have, add-one)
 
-    -- the tests of a length byte, in order
-    module _ {len : ℕ} (there : 2 ≤ length s - at) (its : len ≡ byte_at s (at + 1)) where
-      pub read_not_sound : sound len (length s - at) ≡ false → read (drop at s) ≡ refuses length_not_sound
+      -- the tests of a length byte, in order
+      pub read_not_sound : sound (byte_at s (at + 1)) (length s - at) ≡ false → read (drop at s) ≡ refuses length_not_sound
       unfolding read_sized
-      read_not_sound e = sized there ∙ rw (← its, e)
+      read_not_sound e = sized ∙ rw e
 
-      pub read_wrong : sound len (length s - at) ≡ true → fits len (sizes_of kind) ≡ false → read (drop at s) ≡ refuses wrong_size
-      unfolding read_sized
-      read_wrong e f = sized there ∙ rw (← its, e, f)
+      module _ (is_sound : sound (byte_at s (at + 1)) (length s - at) ≡ true) where
+        pub read_wrong : fits (byte_at s (at + 1)) (sizes_of (named (byte_at s at))) ≡ false → read (drop at s) ≡ refuses wrong_size
+        unfolding read_sized
+        read_wrong e = sized ∙ rw (is_sound, e)
 
-      pub read_right : sound len (length s - at) ≡ true → fits len (sizes_of kind) ≡ true → read (drop at s) ≡ lists kind len
-      unfolding read_sized
-      read_right e f = sized there ∙ rw (← its, e, f)
+        pub read_right : fits (byte_at s (at + 1)) (sizes_of (named (byte_at s at))) ≡ true
+            → read (drop at s) ≡ lists (named (byte_at s at)) (byte_at s (at + 1))
+        unfolding read_sized
+        read_right e = sized ∙ rw (is_sound, e)
 
 -- ---- a listed option has a byte at least, and lies inside
 

@@ -71,7 +71,7 @@ impl From<u8> for OptionKind {
 }
 
 impl OptionKind {
-    // The number that stands in the option's first byte.
+    // The number that stands in the option's first byte. A method and no `From`: `u8::from(kind)` doesn't say what the byte is.
     pub fn number(self) -> u8
         ensures { result ≡ number_of (kind_on_paper self) }
     {
@@ -87,8 +87,8 @@ impl OptionKind {
     }
 
     // Whether an option of this kind may have this size. An unknown one may have any.
-    #[tactic(auto, using(crate::proofs::Sizes::test_is), unfolding(crate::specs::Options::sizes_of))]
-    pub fn has_size(self, len: usize) -> bool
+    #[tactic(auto, using(crate::proofs::Laws::test_is), unfolding(crate::specs::Options::sizes_of))]
+    pub(crate) fn has_size(self, len: usize) -> bool
         ensures { result ≡ fits len (sizes_of (kind_on_paper self)) }
     {
         match self {

@@ -23,6 +23,7 @@ fn is_sound(len: usize, have: usize) -> bool
 }
 
 // The one option that begins at `at`. Its refusals are tested in the order of their numbers.
+#[tactic(auto, using(crate::proofs::Laws::reads))]
 fn read_option(s: &[u8], at: usize) -> Result<Option<TcpOption>, OptionRefusal>
     ensures { option_on_paper result ≡ answer_by at (read (drop at s.now)) }
 {
@@ -45,13 +46,11 @@ fn read_option(s: &[u8], at: usize) -> Result<Option<TcpOption>, OptionRefusal>
     if have < kind::LEN_LEAST {
         return Err(OptionRefusal::NoLengthByte { offset: at });
     }
-    let len = byte(s, at + 1) as usize;
-    let length_is_sound = is_sound(len, have);
-    let size_is_right = kind.has_size(len);
-    if !length_is_sound {
+    let len = usize::from(byte(s, at + 1));
+    if !is_sound(len, have) {
         return Err(OptionRefusal::LengthNotSound { offset: at });
     }
-    if !size_is_right {
+    if !kind.has_size(len) {
         return Err(OptionRefusal::WrongSize { offset: at });
     }
     Ok(Some(TcpOption { at, len, kind }))
@@ -59,6 +58,7 @@ fn read_option(s: &[u8], at: usize) -> Result<Option<TcpOption>, OptionRefusal>
 
 // Option number k: places count from 0, and kind 1 has a place like any other. Where the options end or one is refused, that
 // answer is the one for every later place too.
+#[tactic(auto, using(crate::proofs::Going::going))]
 pub fn option(s: &[u8], k: usize) -> Result<Option<TcpOption>, OptionRefusal>
     ensures answer { option_on_paper result ≡ option_of (options s.now) k }
     ensures unwritten { s.exit.now ≡ s.entry.now }
