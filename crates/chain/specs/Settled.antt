@@ -1,7 +1,7 @@
 -- "Each public answer is settled by its input alone, refusals with all that they carry included. Prove that no second answer
 -- satisfies the same contract": a statement for each public function. Of two answers x and y that both satisfy its `ensures`, x ≡ y.
 -- The functions whose contract says `r ≡ value` have theirs in SettledValues.antt. One exception: header_at, below.
-use Rattle.std.specs.Prelude.{ℕ, ◌+◌, ◌-◌, ◌≡◌, Bool, false, List, [], length}
+use Rattle.std.specs.Prelude.{ℕ, ◌+◌, ◌-◌, ◌≡◌, Bool, false, List, [], length, Option, Result}
 use Rattle.std.proofs.Math.Path.{refl, ap}
 use Rattle.std.proofs.Common.{sym, ◌∙◌, arith}
 use Rattle.rules.specs.declared.entry.Entry.{Entry}
@@ -48,10 +48,12 @@ use Rattle.slicer.specs.Reply.{packet_on_paper, reply_of}
 use Rattle.steps.specs.Places.{same_place}
 use Rattle.checksum.specs.declared.Sum16BitWords.{Sum16BitWords}
 use Rattle.checksum.specs.Sum.{fold, totals, add_slice, answer, without_zero}
-use Rattle.tcp_options.specs.declared.answer.OptionAnswer.{OptionAnswer}
-use Rattle.tcp_options.specs.Options.{options, option_of}
-use Rattle.tcp_options.specs.Paper.{option_on_paper}
-use Rattle.tcp_options.specs.Settled.{settled}
+use Rattle.tcp_options.specs.declared.answer.TcpOption.{TcpOption}
+use Rattle.tcp_options.specs.declared.answer.OptionRefusal.{OptionRefusal}
+use Rattle.tcp_options.specs.declared.kind.OptionKind.{OptionKind}
+use Rattle.tcp_options.specs.Options.{named, options, option_of}
+use Rattle.tcp_options.specs.Paper.{kind_on_paper, option_on_paper}
+use Rattle.tcp_options.specs.Settled.{kind_settled, settled}
 use Rattle.chain.specs.Answers.{Sliced, HeaderIs, CountIs, ListIs, FirstIs, StepIs}
 use Rattle.laws.specs.Back.{settled_by, stop_back}
 use Rattle.chain.specs.Back.{refusal-back, link_back, ip_back, ext_back, transport_back}
@@ -271,5 +273,8 @@ to_ones_complement_with_no_zero self x y e f = same_value e f
 
 -- ---- crate tcp_options
 
-pub option : (s : List ℕ) (k : ℕ) → Settles (λ (r : OptionAnswer). option_on_paper r ≡ option_of (options s) k)
+pub option : (s : List ℕ) (k : ℕ) → Settles (λ (r : Result (Option TcpOption) OptionRefusal). option_on_paper r ≡ option_of (options s) k)
 option s k x y e f = settled s k x y e f
+
+pub option_kind_from : (n : ℕ) → Settles (λ (r : OptionKind). kind_on_paper r ≡ named n)
+option_kind_from n x y e f = kind_settled n x y e f

@@ -3,7 +3,7 @@ ghost use Rattle.chain.specs.TcpOptions.{OptionsOfChain, OptionTells};
 
 use rules::Entry;
 use slicer::OptionsPart;
-use tcp_options::OptionAnswer;
+use tcp_options::{OptionRefusal, TcpOption};
 
 // What follows byte 20 of the chain's TCP header.
 pub fn of_frame(s: &[u8], entry: Entry) -> OptionsPart
@@ -13,7 +13,7 @@ pub fn of_frame(s: &[u8], entry: Entry) -> OptionsPart
     reply.tcp_options(s)
 }
 
-pub fn option(s: &[u8], k: usize) -> OptionAnswer
+pub fn option(s: &[u8], k: usize) -> Result<Option<TcpOption>, OptionRefusal>
     ensures { OptionTells s.now k result }
 {
     tcp_options::option(s, k)

@@ -1,4 +1,4 @@
--- One answer a place: no second answer satisfies the contract of `option`. Assumes nothing.
+-- One answer a place, and one kind a number: no second answer satisfies the contract of `option`, and no second kind that of `OptionKind::from`. Assumes nothing.
 use Rattle.std.specs.Prelude.{ℕ, ◌≡◌, refl, List, eqb, Option, Some, None, Result, Ok, Err}
 use Rattle.std.proofs.Common.{sym, ap, ◌∙◌}
 use Rattle.rules.specs.Test.{pick}
@@ -8,7 +8,7 @@ use Rattle.tcp_options.specs.declared.answer.OptionRefusal.{OptionRefusal}
 use Rattle.tcp_options.specs.declared.answer.OptionRefusal.TheVariants as R
 use Rattle.tcp_options.specs.declared.answer.OptionRow.{OptionRow}
 use Rattle.tcp_options.specs.declared.answer.TcpOption.{TcpOption}
-use Rattle.tcp_options.specs.Options.{Kind, known, unknown, noop, maximum_segment_size, window_scale, selective_ack_permitted, selective_ack}
+use Rattle.tcp_options.specs.Options.{Kind, known, unknown, named, noop, maximum_segment_size, window_scale, selective_ack_permitted, selective_ack}
 use Rattle.tcp_options.specs.Options.{no_length_byte, length_not_sound, Answer, is, no-more, refusal, options, option_of}
 use Rattle.tcp_options.specs.Paper.{kind_on_paper, refusal_on_paper, option_on_paper}
 
@@ -58,6 +58,10 @@ answer_back (Ok None) = refl
 answer_back (Err r) = ap Err (refusal-back r)
 
 -- ---- the theorems
+
+-- the number settles the kind that it names
+pub kind_settled : (n : ℕ) (a b : OptionKind) → kind_on_paper a ≡ named n → kind_on_paper b ≡ named n → a ≡ b
+kind_settled n a b p q = sym (kind-back a) ∙ ap kind_back (p ∙ sym q) ∙ kind-back b
 
 -- answers that are the same on paper are the same
 pub same_on_paper : (a b : Result (Option TcpOption) OptionRefusal) → option_on_paper a ≡ option_on_paper b → a ≡ b
