@@ -1,7 +1,7 @@
 -- One option at a place of a slice, and the options from there on, in the facts that the code has. Assumes nothing.
 use Prim.Native.Nat.{ℕ, zero, suc, ◌+◌, ◌-◌, ◌≤◌, ◌<◌}
 use Rattle.std.proofs.Math.Path.{◌≡◌, refl}
-use Rattle.std.proofs.Common.{sym, ap, ◌∙◌, add-one, drop_of_length-le, drop-cons}
+use Rattle.std.proofs.Common.{ap, ◌∙◌, add-one, drop_of_length-le, drop-cons}
 use Rattle.std.specs.Prelude.{Bool, true, false, ltb, leb, eqb, drop}
 use mathlib.Core.List.{List, [], ◌∷◌}
 use native.Mathlib.Omega.{arith}
@@ -73,25 +73,12 @@ module _ (s : List ℕ) (at : ℕ) (inside : at < length s) (not0 : byte_at s at
 
 -- ---- a listed option has a byte at least, and lies inside
 
-ends_not_lists : {kind : Kind} {size : ℕ} → ends ≡ lists kind size → ⊥
-ends_not_lists e = let z : ◌≡◌ {A = ℕ} 0 1 = cc in omega arith
-
-nothing_not_lists : {kind : Kind} {size : ℕ} → read [] ≡ lists kind size → ⊥
-unfolding read
-nothing_not_lists e = ends_not_lists e
-
-refuses_not_lists : {n : ℕ} {kind : Kind} {size : ℕ} → refuses n ≡ lists kind size → ⊥
-refuses_not_lists e = let z : ◌≡◌ {A = ℕ} 0 1 = cc in omega arith
-
-lists_size : {a b : Kind} {m n : ℕ} → lists a m ≡ lists b n → m ≡ n
-lists_size e = cc
-
 pub sound_is : (len have : ℕ) → sound len have ≡ true → (2 ≤ len) × (len ≤ have)
 unfolding sound
 sound_is len have e = go (ltb len 2) refl e
   where
     go : (b : Bool) → ltb len 2 ≡ b → pick b false (leb len have) ≡ true → (2 ≤ len) × (len ≤ have)
-    go true p e = absurd (let z : ◌≡◌ {A = ℕ} 0 1 = cc in omega arith)
+    go true p e = cc
     go false p e = (ltb-false len 2 p, leb-true len have e)
 
 sized_fits : (k : Kind) (len have : ℕ) {kind : Kind} {size : ℕ} → read_sized k len have ≡ lists kind size → (2 ≤ size) × (size ≤ have)
@@ -99,13 +86,13 @@ unfolding read_sized
 sized_fits k len have {kind} {size} e = go (sound len have) (fits len (sizes_of k)) refl e
   where
     go : (a b : Bool) → sound len have ≡ a → pick a (pick b (lists k len) (refuses wrong_size)) (refuses length_not_sound) ≡ lists kind size → (2 ≤ size) × (size ≤ have)
-    go true true p e = rw (sym (lists_size e)) (sound_is len have p)
-    go true false p e = absurd (refuses_not_lists e)
-    go false b p e = absurd (refuses_not_lists e)
+    go true true p e = let z : size ≡ len = cc in rw z (sound_is len have p)
+    go true false p e = cc
+    go false b p e = cc
 
 long_fits : (k : Kind) (rest : List ℕ) {kind : Kind} {size : ℕ} → read_long k rest ≡ lists kind size → (1 ≤ size) × (size ≤ suc (length rest))
 unfolding read_long
-long_fits k [] e = absurd (refuses_not_lists e)
+long_fits k [] e = cc
 long_fits k (len ∷ rest) e = let z = sized_fits k len (length rest + 2) e in omega arith
 
 kind_fits : (n : ℕ) (rest : List ℕ) {kind : Kind} {size : ℕ} → read_kind n rest ≡ lists kind size → (1 ≤ size) × (size ≤ suc (length rest))
@@ -113,13 +100,13 @@ unfolding read_kind
 kind_fits n rest {kind} {size} e = go (eqb n end_of_list) (eqb n noop) e
   where
     go : (a b : Bool) → pick a ends (pick b (lists (named n) noop_size) (read_long (named n) rest)) ≡ lists kind size → (1 ≤ size) × (size ≤ suc (length rest))
-    go true b e = absurd (ends_not_lists e)
-    go false true e = let z = lists_size e in omega arith
+    go true b e = cc
+    go false true e = let z : noop_size ≡ size = cc in omega arith
     go false false e = long_fits (named n) rest e
 
 pub lists_fits : (t : List ℕ) {kind : Kind} {size : ℕ} → read t ≡ lists kind size → (1 ≤ size) × (size ≤ length t)
 unfolding read
-lists_fits [] e = absurd (ends_not_lists e)
+lists_fits [] e = cc
 lists_fits (n ∷ rest) e = kind_fits n rest e
 
 -- ---- the options from a place on
@@ -139,7 +126,7 @@ behind o os = record { list = o ∷ os.list; ending = os.ending }
 
 walk_lists : (at : ℕ) (t : List ℕ) (kind : Kind) (size : ℕ) → read t ≡ lists kind size → walk 0 at t ≡ behind (listed kind at size) (walk 0 (at + size) (drop size t))
 unfolding walk
-walk_lists at [] kind size e = absurd (nothing_not_lists e)
+walk_lists at [] kind size e = let z = lists_fits [] e in absurd (omega arith)
 walk_lists at (b ∷ rest) kind zero e = let z = lists_fits (b ∷ rest) e in absurd (omega arith)
 walk_lists at (b ∷ rest) kind (suc n) e =
     let z = lists_fits (b ∷ rest) e in
@@ -166,5 +153,5 @@ module _ (s : List ℕ) (at : ℕ) where
   from_refuses n e = go (drop at s) e
     where
       go : (t : List ℕ) → read t ≡ refuses n → walk 0 at t ≡ record { list = []; ending = refused (row n at) }
-      go [] e = absurd (let z : ◌≡◌ {A = ℕ} 0 1 = cc in omega arith)
+      go [] e = cc
       go (b ∷ t) e = rw e
