@@ -13,6 +13,7 @@ pub fn of_frame(s: &[u8], entry: Entry) -> OptionsPart
     reply.tcp_options(s)
 }
 
+#[tactic(auto, using(crate::specs::TcpOptions::option_tells))]
 pub fn option(s: &[u8], k: usize) -> Result<Option<TcpOption>, OptionRefusal>
     ensures { OptionTells s.now k result }
 {
