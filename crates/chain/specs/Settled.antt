@@ -46,10 +46,12 @@ use Rattle.slicer.specs.Reply.{packet_on_paper, reply_of}
 use Rattle.steps.specs.Places.{same_place}
 use Rattle.checksum.specs.declared.Sum16BitWords.{Sum16BitWords}
 use Rattle.checksum.specs.Sum.{fold, totals, add_slice, answer, without_zero}
-use Rattle.tcp_options.specs.declared.answer.OptionAnswer.{OptionAnswer}
-use Rattle.tcp_options.specs.Options.{options, option_of}
-use Rattle.tcp_options.specs.Paper.{option_on_paper}
-use Rattle.tcp_options.specs.Settled.{settled}
+use Rattle.tcp_options.specs.declared.answer.TcpOption.{TcpOption}
+use Rattle.tcp_options.specs.declared.answer.OptionRefusal.{OptionRefusal}
+use Rattle.tcp_options.specs.declared.kind.OptionKind.{OptionKind}
+use Rattle.tcp_options.specs.Options.{named, options, option_of}
+use Rattle.tcp_options.specs.Paper.{kind_on_paper, option_on_paper}
+use Rattle.tcp_options.specs.Settled.{kind_settled, settled}
 use Rattle.chain.specs.Answers.{Sliced, HeaderIs, CountIs, ListIs, FirstIs, StepIs}
 use Rattle.laws.specs.Back.{settled_by, stop_back}
 use Rattle.chain.specs.Back.{refusal-back, read_back}
@@ -261,5 +263,8 @@ to_ones_complement_with_no_zero self x y e f = same_value e f
 
 -- ---- crate tcp_options
 
-pub option : (s : List ℕ) (k : ℕ) → Settles (λ (r : OptionAnswer). option_on_paper r ≡ option_of (options s) k)
+pub option : (s : List ℕ) (k : ℕ) → Settles (λ (r : Result (Option TcpOption) OptionRefusal). option_on_paper r ≡ option_of (options s) k)
 option s k x y e f = settled s k x y e f
+
+pub option_kind_from : (n : ℕ) → Settles (λ (r : OptionKind). kind_on_paper r ≡ named n)
+option_kind_from n x y e f = kind_settled n x y e f

@@ -23,7 +23,8 @@ use Rattle.laws.specs.Kinds.{sized}
 use Rattle.slicer.specs.declared.packet.SlicedPacket.{SlicedPacket}
 use Rattle.slicer.specs.Reply.{Reply, Parts, nothing, slice_way, put, extended, range}
 use Rattle.slicer.specs.Options.{options_of, there}
-use Rattle.tcp_options.specs.declared.answer.OptionAnswer.{OptionAnswer}
+use Rattle.tcp_options.specs.declared.answer.TcpOption.{TcpOption}
+use Rattle.tcp_options.specs.declared.answer.OptionRefusal.{OptionRefusal}
 use Rattle.tcp_options.specs.declared.answer.OptionRow.{OptionRow}
 use Rattle.tcp_options.specs.Options as O
 use Rattle.tcp_options.specs.Paper.{option_on_paper}
@@ -190,14 +191,14 @@ options_of_chain entry s a r e o hs x k g c n q =
 
 -- ---- each answer of `option`, for the bytes s and the place k (crate tcp_options has the theorems)
 
-pub record OptionTells (s : List ℕ) (k : ℕ) (r : OptionAnswer) : Type 0 where
+pub record OptionTells (s : List ℕ) (k : ℕ) (r : Result (Option TcpOption) OptionRefusal) : Type 0 where
   -- a listed option is what the bytes at its offset are read as, and lies inside
   pub listed : (o : O.Listed) → option_on_paper r ≡ O.is o → (O.read (drop o.at s) ≡ O.lists o.kind o.size) × (o.at + o.size ≤ length s)
   -- at the place of a refused option and every later one the answer is that refusal, whose offset is inside
   pub refused : (q : OptionRow) → option_on_paper r ≡ O.refusal q → (q.offset < length s) × ((m : ℕ) → k ≤ m → O.option_of (O.options s) m ≡ O.refusal q)
   pub no-more : option_on_paper r ≡ O.no-more → (m : ℕ) → k ≤ m → O.option_of (O.options s) m ≡ O.no-more
 
-pub option_tells : (s : List ℕ) (k : ℕ) (r : OptionAnswer) → option_on_paper r ≡ O.option_of (O.options s) k → OptionTells s k r
+pub option_tells : (s : List ℕ) (k : ℕ) (r : Result (Option TcpOption) OptionRefusal) → option_on_paper r ≡ O.option_of (O.options s) k → OptionTells s k r
 option_tells s k r e =
     record {
       listed = λ o q. (listed_is_there s k o (sym e ∙ q), (listed_inside s k o (sym e ∙ q)).1);

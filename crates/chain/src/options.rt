@@ -2,7 +2,7 @@
 ghost use Rattle.chain.specs.TcpOptions.{OptionsOfChain, OptionTells};
 
 use rules::{Entry, Range};
-use tcp_options::OptionAnswer;
+use tcp_options::{OptionRefusal, TcpOption};
 
 // What follows byte 20 of the chain's TCP header.
 pub fn of_frame(s: &[u8], entry: Entry) -> Option<Range>
@@ -14,7 +14,8 @@ pub fn of_frame(s: &[u8], entry: Entry) -> Option<Range>
     }
 }
 
-pub fn option(s: &[u8], k: usize) -> OptionAnswer
+#[tactic(auto, using(crate::specs::TcpOptions::option_tells))]
+pub fn option(s: &[u8], k: usize) -> Result<Option<TcpOption>, OptionRefusal>
     ensures { OptionTells s.now k result }
 {
     tcp_options::option(s, k)

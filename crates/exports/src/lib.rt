@@ -83,8 +83,7 @@ pub fn bhirkulom_option(bytes: &[u8], k: usize) -> OptionReply
     ensures answer { result ≡ option_by (option_of (options bytes.now) k) }
     ensures unwritten { bytes.exit.now ≡ bytes.entry.now }
 {
-    let found = tcp_options::option(bytes, k);
-    reply::option_by(found)
+    reply::option_by(tcp_options::option(bytes, k))
 }
 
 // The sum with one slice more. The sum of no slices is 0; every number of 16 bits is a sum.

@@ -33,7 +33,7 @@ use crate::handed::{
 use rules::ether_type::TAG_LIMIT;
 use rules::{Header, Number, Range, Refusal, Row};
 use slicer::{IpPart, SlicedPacket};
-use tcp_options::{OptionAnswer, OptionKind, OptionRow};
+use tcp_options::{OptionKind, OptionRefusal, OptionRow, TcpOption};
 
 pub fn no_header() -> Header
     ensures { result ≡ no_header }
@@ -221,22 +221,19 @@ fn is_known(kind: OptionKind) -> bool
     }
 }
 
-pub fn option_by(answer: OptionAnswer) -> OptionReply
+pub fn option_by(answer: Result<Option<TcpOption>, OptionRefusal>) -> OptionReply
     ensures { result ≡ option_by (option_on_paper answer) }
 {
     match answer {
-        OptionAnswer::Is(option) => {
-            let kind = option.kind;
-            OptionReply {
-                status: THERE,
-                kind: kind.number() as usize,
-                at: option.at,
-                len: option.len,
-                refusal: no_option_row(),
-                known: is_known(kind),
-            }
-        }
-        OptionAnswer::NoMore => OptionReply {
+        Ok(Some(option)) => OptionReply {
+            status: THERE,
+            kind: usize::from(option.kind.number()),
+            at: option.at,
+            len: option.len,
+            refusal: no_option_row(),
+            known: is_known(option.kind),
+        },
+        Ok(None) => OptionReply {
             status: NO_MORE,
             kind: 0,
             at: 0,
@@ -244,16 +241,13 @@ pub fn option_by(answer: OptionAnswer) -> OptionReply
             refusal: no_option_row(),
             known: false,
         },
-        OptionAnswer::Refused(refusal) => {
-            let row = refusal.row();
-            OptionReply {
-                status: REFUSED,
-                kind: 0,
-                at: 0,
-                len: 0,
-                refusal: row,
-                known: false,
-            }
-        }
+        Err(refusal) => OptionReply {
+            status: REFUSED,
+            kind: 0,
+            at: 0,
+            len: 0,
+            refusal: OptionRow::from(refusal),
+            known: false,
+        },
     }
 }

@@ -1,3 +1,3 @@
 -- What the proofs of several functions share.
-pub mod Sizes
+pub mod Laws
 pub mod Going

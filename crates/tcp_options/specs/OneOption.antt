@@ -1,7 +1,7 @@
 -- One option at a place of a slice, and the options from there on, in the facts that the code has. Assumes nothing.
 use Prim.Native.Nat.{ℕ, zero, suc, ◌+◌, ◌-◌, ◌≤◌, ◌<◌}
 use Rattle.std.proofs.Math.Path.{◌≡◌, refl}
-use Rattle.std.proofs.Common.{sym, ap, ◌∙◌, add-one, drop_of_length-le, drop-cons}
+use Rattle.std.proofs.Common.{ap, ◌∙◌, add-one, drop_of_length-le, drop-cons}
 use Rattle.std.specs.Prelude.{Bool, true, false, ltb, leb, eqb, drop}
 use mathlib.Core.List.{List, [], ◌∷◌}
 use native.Mathlib.Omega.{arith}
@@ -31,71 +31,54 @@ unfolding read_kind
 read_end s at h e = read_some s at h ∙ rw (eq-eqb _ end_of_list e)
 
 -- a kind of another number, at a byte that is left
-pub record At (s : List ℕ) (at n : ℕ) (kind : Kind) : Type 0 where
-  pub inside : at < length s
-  pub byte : n ≡ byte_at s at
-  pub names : kind ≡ named n
-  pub not0 : n ≡ end_of_list → ⊥
-
-module _ {s : List ℕ} {at n : ℕ} {kind : Kind} (a : At s at n kind) where
+module _ (s : List ℕ) (at : ℕ) (inside : at < length s) (not0 : byte_at s at ≡ end_of_list → ⊥) where
   -- kind 1
-  pub read-noop : n ≡ noop → read (drop at s) ≡ lists kind noop_size
+  pub read-noop : byte_at s at ≡ noop → read (drop at s) ≡ lists (named (byte_at s at)) noop_size
   unfolding read_kind
-  read-noop e = read_some s at a.inside ∙ rw (a.names, ← a.byte, e)
+  read-noop e = read_some s at inside ∙ rw (ne_eqb (byte_at s at) end_of_list not0, eq-eqb (byte_at s at) noop e)
 
-  module _ (not1 : n ≡ noop → ⊥) where
-    long : read (drop at s) ≡ read_long kind (drop (suc at) s)
+  module _ (not1 : byte_at s at ≡ noop → ⊥) where
+    long : read (drop at s) ≡ read_long (named (byte_at s at)) (drop (suc at) s)
     unfolding read_kind
-    long = read_some s at a.inside ∙ rw (a.names, ← a.byte, ne_eqb n end_of_list a.not0, ne_eqb n noop not1)
+    long = read_some s at inside ∙ rw (ne_eqb (byte_at s at) end_of_list not0, ne_eqb (byte_at s at) noop not1)
 
     -- no length byte
     pub read_no_length : length s - at < 2 → read (drop at s) ≡ refuses no_length_byte
     unfolding read_long
-    read_no_length h = let z : length s ≤ suc at = omega (arith, a.inside) in long ∙ rw (drop_of_length-le s z)
+    read_no_length h = let z : length s ≤ suc at = omega arith in long ∙ rw (drop_of_length-le s z)
 
     -- a length byte, and what is there from the option's kind on
-    sized : 2 ≤ length s - at → read (drop at s) ≡ read_sized kind (byte_at s (at + 1)) (length s - at)
-    unfolding read_long
-    sized h =
-        let z : suc at < length s = omega arith in
-        let have : length (drop (suc (suc at)) s) + 2 ≡ length s - at = rw length-drop (omega arith) in
-        long ∙ rw (drop-cons s (suc at) 0, have, add-one)
+    module _ (there : 2 ≤ length s - at) where
+      sized : read (drop at s) ≡ read_sized (named (byte_at s at)) (byte_at s (at + 1)) (length s - at)
+      unfolding read_long
+      sized =
+          let z : suc at < length s = omega arith in
+          let have : length (drop (suc (suc at)) s) + 2 ≡ length s - at = rw length-drop (omega arith) in
+          long ∙ rw (drop-cons s (suc at) 0, have, add-one)
 
-    -- the tests of a length byte, in order
-    module _ {len : ℕ} (there : 2 ≤ length s - at) (its : len ≡ byte_at s (at + 1)) where
-      pub read_not_sound : sound len (length s - at) ≡ false → read (drop at s) ≡ refuses length_not_sound
+      -- the tests of a length byte, in order
+      pub read_not_sound : sound (byte_at s (at + 1)) (length s - at) ≡ false → read (drop at s) ≡ refuses length_not_sound
       unfolding read_sized
-      read_not_sound e = sized there ∙ rw (← its, e)
+      read_not_sound e = sized ∙ rw e
 
-      pub read_wrong : sound len (length s - at) ≡ true → fits len (sizes_of kind) ≡ false → read (drop at s) ≡ refuses wrong_size
-      unfolding read_sized
-      read_wrong e f = sized there ∙ rw (← its, e, f)
+      module _ (is_sound : sound (byte_at s (at + 1)) (length s - at) ≡ true) where
+        pub read_wrong : fits (byte_at s (at + 1)) (sizes_of (named (byte_at s at))) ≡ false → read (drop at s) ≡ refuses wrong_size
+        unfolding read_sized
+        read_wrong e = sized ∙ rw (is_sound, e)
 
-      pub read_right : sound len (length s - at) ≡ true → fits len (sizes_of kind) ≡ true → read (drop at s) ≡ lists kind len
-      unfolding read_sized
-      read_right e f = sized there ∙ rw (← its, e, f)
+        pub read_right : fits (byte_at s (at + 1)) (sizes_of (named (byte_at s at))) ≡ true
+            → read (drop at s) ≡ lists (named (byte_at s at)) (byte_at s (at + 1))
+        unfolding read_sized
+        read_right e = sized ∙ rw (is_sound, e)
 
 -- ---- a listed option has a byte at least, and lies inside
-
-ends_not_lists : {kind : Kind} {size : ℕ} → ends ≡ lists kind size → ⊥
-ends_not_lists e = let z : ◌≡◌ {A = ℕ} 0 1 = cc in omega arith
-
-nothing_not_lists : {kind : Kind} {size : ℕ} → read [] ≡ lists kind size → ⊥
-unfolding read
-nothing_not_lists e = ends_not_lists e
-
-refuses_not_lists : {n : ℕ} {kind : Kind} {size : ℕ} → refuses n ≡ lists kind size → ⊥
-refuses_not_lists e = let z : ◌≡◌ {A = ℕ} 0 1 = cc in omega arith
-
-lists_size : {a b : Kind} {m n : ℕ} → lists a m ≡ lists b n → m ≡ n
-lists_size e = cc
 
 pub sound_is : (len have : ℕ) → sound len have ≡ true → (2 ≤ len) × (len ≤ have)
 unfolding sound
 sound_is len have e = go (ltb len 2) refl e
   where
     go : (b : Bool) → ltb len 2 ≡ b → pick b false (leb len have) ≡ true → (2 ≤ len) × (len ≤ have)
-    go true p e = absurd (let z : ◌≡◌ {A = ℕ} 0 1 = cc in omega arith)
+    go true p e = cc
     go false p e = (ltb-false len 2 p, leb-true len have e)
 
 sized_fits : (k : Kind) (len have : ℕ) {kind : Kind} {size : ℕ} → read_sized k len have ≡ lists kind size → (2 ≤ size) × (size ≤ have)
@@ -103,13 +86,13 @@ unfolding read_sized
 sized_fits k len have {kind} {size} e = go (sound len have) (fits len (sizes_of k)) refl e
   where
     go : (a b : Bool) → sound len have ≡ a → pick a (pick b (lists k len) (refuses wrong_size)) (refuses length_not_sound) ≡ lists kind size → (2 ≤ size) × (size ≤ have)
-    go true true p e = rw (sym (lists_size e)) (sound_is len have p)
-    go true false p e = absurd (refuses_not_lists e)
-    go false b p e = absurd (refuses_not_lists e)
+    go true true p e = let z : size ≡ len = cc in rw z (sound_is len have p)
+    go true false p e = cc
+    go false b p e = cc
 
 long_fits : (k : Kind) (rest : List ℕ) {kind : Kind} {size : ℕ} → read_long k rest ≡ lists kind size → (1 ≤ size) × (size ≤ suc (length rest))
 unfolding read_long
-long_fits k [] e = absurd (refuses_not_lists e)
+long_fits k [] e = cc
 long_fits k (len ∷ rest) e = let z = sized_fits k len (length rest + 2) e in omega arith
 
 kind_fits : (n : ℕ) (rest : List ℕ) {kind : Kind} {size : ℕ} → read_kind n rest ≡ lists kind size → (1 ≤ size) × (size ≤ suc (length rest))
@@ -117,13 +100,13 @@ unfolding read_kind
 kind_fits n rest {kind} {size} e = go (eqb n end_of_list) (eqb n noop) e
   where
     go : (a b : Bool) → pick a ends (pick b (lists (named n) noop_size) (read_long (named n) rest)) ≡ lists kind size → (1 ≤ size) × (size ≤ suc (length rest))
-    go true b e = absurd (ends_not_lists e)
-    go false true e = let z = lists_size e in omega arith
+    go true b e = cc
+    go false true e = let z : noop_size ≡ size = cc in omega arith
     go false false e = long_fits (named n) rest e
 
 pub lists_fits : (t : List ℕ) {kind : Kind} {size : ℕ} → read t ≡ lists kind size → (1 ≤ size) × (size ≤ length t)
 unfolding read
-lists_fits [] e = absurd (ends_not_lists e)
+lists_fits [] e = cc
 lists_fits (n ∷ rest) e = kind_fits n rest e
 
 -- ---- the options from a place on
@@ -143,7 +126,7 @@ behind o os = record { list = o ∷ os.list; ending = os.ending }
 
 walk_lists : (at : ℕ) (t : List ℕ) (kind : Kind) (size : ℕ) → read t ≡ lists kind size → walk 0 at t ≡ behind (listed kind at size) (walk 0 (at + size) (drop size t))
 unfolding walk
-walk_lists at [] kind size e = absurd (nothing_not_lists e)
+walk_lists at [] kind size e = let z = lists_fits [] e in absurd (omega arith)
 walk_lists at (b ∷ rest) kind zero e = let z = lists_fits (b ∷ rest) e in absurd (omega arith)
 walk_lists at (b ∷ rest) kind (suc n) e =
     let z = lists_fits (b ∷ rest) e in
@@ -170,5 +153,5 @@ module _ (s : List ℕ) (at : ℕ) where
   from_refuses n e = go (drop at s) e
     where
       go : (t : List ℕ) → read t ≡ refuses n → walk 0 at t ≡ record { list = []; ending = refused (row n at) }
-      go [] e = absurd (let z : ◌≡◌ {A = ℕ} 0 1 = cc in omega arith)
+      go [] e = cc
       go (b ∷ t) e = rw e

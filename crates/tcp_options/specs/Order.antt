@@ -47,12 +47,9 @@ only_chain s os e c = go c
 
 -- ---- what holds of every chain
 
-is_is : {o p : Listed} → is o ≡ is p → o ≡ p
-is_is e = cc
-
 pub not_is : (e : Ending) {o : Listed} → ending_answer e ≡ is o → ⊥
-not_is (ended at) e = let z : ◌≡◌ {A = ℕ} 0 1 = cc in omega arith
-not_is (refused r) e = let z : ◌≡◌ {A = ℕ} 0 1 = cc in omega arith
+not_is (ended at) e = cc
+not_is (refused r) e = cc
 
 -- the sizes of some options, added up
 unfoldable pub total : List Listed → ℕ
@@ -70,19 +67,19 @@ Ends s (refused r) = read (drop r.offset s) ≡ refuses r.number
 
 module _ {s : List ℕ} where
   first_in : {at : ℕ} {os : List Listed} {e : Ending} → Chain s at os e → (o : Listed) → nth os 0 (ending_answer e) ≡ is o → o.at ≡ at
-  first_in (next r c) o h = sym (ap (λ (x : Listed). x.at) (is_is h))
+  first_in (next {at} {size} {kind} r c) o h = let z : o ≡ listed kind at size = cc in ap (λ (x : Listed). x.at) z
   first_in (last {at} r) o h = absurd (not_is (ended at) h)
   first_in (bad {at} {n} r) o h = absurd (not_is (refused (row n at)) h)
 
   next_in : {at : ℕ} {os : List Listed} {e : Ending} → Chain s at os e → (k : ℕ) (o p : Listed) → nth os k (ending_answer e) ≡ is o → nth os (suc k)
       (ending_answer e) ≡ is p → p.at ≡ o.at + o.size
-  next_in (next r c) zero o p h i = first_in c p i ∙ ap (λ (x : Listed). x.at + x.size) (is_is h)
+  next_in (next {at} {size} {kind} r c) zero o p h i = let z : listed kind at size ≡ o = cc in first_in c p i ∙ ap (λ (x : Listed). x.at + x.size) z
   next_in (next r c) (suc k) o p h i = next_in c k o p h i
   next_in (last {at} r) k o p h i = absurd (not_is (ended at) h)
   next_in (bad {at} {n} r) k o p h i = absurd (not_is (refused (row n at)) h)
 
   told_in : {at : ℕ} {os : List Listed} {e : Ending} → Chain s at os e → (k : ℕ) (o : Listed) → nth os k (ending_answer e) ≡ is o → read (drop o.at s) ≡ lists o.kind o.size
-  told_in (next r c) zero o h = rw (sym (is_is h)) r
+  told_in (next {at} {size} {kind} r c) zero o h = let z : o ≡ listed kind at size = cc in rw z r
   told_in (next r c) (suc k) o h = told_in c k o h
   told_in (last {at} r) k o h = absurd (not_is (ended at) h)
   told_in (bad {at} {n} r) k o h = absurd (not_is (refused (row n at)) h)

@@ -43,30 +43,24 @@ module _ (w : Options) where
       go true p = leb-true (length w.list) k p
       go false p = let z = listed_before k (leb-false (length w.list) k p) in absurd (other z.0 (sym e ∙ z.1))
 
-refusal_other : (r : OptionRow) (o : Listed) → refusal r ≡ is o → ⊥
-refusal_other r o e = let z : ◌≡◌ {A = ℕ} 0 1 = cc in omega arith
-
-no_more_other : (o : Listed) → no-more ≡ is o → ⊥
-no_more_other o e = let z : ◌≡◌ {A = ℕ} 0 1 = cc in omega arith
-
 module _ (s : List ℕ) where
   -- "at its place and every later one the answer is the refusal"
   pub refused_later : (k : ℕ) (r : OptionRow) → option_of (options s) k ≡ refusal r → (m : ℕ) → k ≤ m → option_of (options s) m ≡ refusal r
   refused_later k r e m h =
-      let p = past (options s) k (refusal r) e (refusal_other r) in
+      let p = past (options s) k (refusal r) e (λ o e. cc) in
       ending-from (options s) m (omega arith) ∙ sym (ending-from (options s) k p) ∙ e
 
   -- "After kind 0 or the end it is "no more""
   pub no_more_later : (k : ℕ) → option_of (options s) k ≡ no-more → (m : ℕ) → k ≤ m → option_of (options s) m ≡ no-more
   no_more_later k e m h =
-      let p = past (options s) k no-more e no_more_other in
+      let p = past (options s) k no-more e (λ o e. cc) in
       ending-from (options s) m (omega arith) ∙ sym (ending-from (options s) k p) ∙ e
 
   -- "What stands before a refused option is still listed": some place parts the options from the refusal
   pub refused_from : (k : ℕ) (r : OptionRow) → option_of (options s) k ≡ refusal r
       → (p : ℕ) × (p ≤ k) × ((j : ℕ) → j < p → (o : Listed) × (option_of (options s) j ≡ is o)) × ((m : ℕ) → p ≤ m → option_of (options s) m ≡ refusal r)
   refused_from k r e =
-      let p = past (options s) k (refusal r) e (refusal_other r) in
+      let p = past (options s) k (refusal r) e (λ o e. cc) in
       (length (options s).list, p, listed_before (options s), λ m h. ending-from (options s) m h ∙ sym (ending-from (options s) k p) ∙ e)
 
   -- before a listed option every place has one
@@ -79,21 +73,15 @@ module _ (s : List ℕ) where
 
 -- ---- what the ending says of the bytes
 
-not_refuses : (n : ℕ) → refuses n ≡ ends → ⊥
-not_refuses n e = let z : ◌≡◌ {A = ℕ} 0 1 = cc in omega arith
-
-not_lists : (kind : Kind) (size : ℕ) → lists kind size ≡ ends → ⊥
-not_lists kind size e = let z : ◌≡◌ {A = ℕ} 0 1 = cc in omega arith
-
 long_not_ends : (kind : Kind) (rest : List ℕ) → read_long kind rest ≡ ends → ⊥
 unfolding read_long read_sized
-long_not_ends kind [] e = not_refuses _ e
+long_not_ends kind [] e = cc
 long_not_ends kind (len ∷ rest) e = go (sound len (length rest + 2)) (fits len (sizes_of kind)) e
   where
     go : (a b : Bool) → pick a (pick b (lists kind len) (refuses wrong_size)) (refuses length_not_sound) ≡ ends → ⊥
-    go true true e = not_lists kind len e
-    go true false e = not_refuses _ e
-    go false b e = not_refuses _ e
+    go true true e = cc
+    go true false e = cc
+    go false b e = cc
 
 -- only kind 0 ends the options while bytes are left
 kind_ends : (n : ℕ) (rest : List ℕ) → read_kind n rest ≡ ends → n ≡ end_of_list
@@ -102,15 +90,15 @@ kind_ends n rest e = go (eqb n end_of_list) (eqb n noop) refl e
   where
     go : (a b : Bool) → eqb n end_of_list ≡ a → pick a ends (pick b (lists (named n) noop_size) (read_long (named n) rest)) ≡ ends → n ≡ end_of_list
     go true b p e = eqb-true n end_of_list p
-    go false true p e = absurd (not_lists _ _ e)
+    go false true p e = cc
     go false false p e = absurd (long_not_ends (named n) rest e)
 
 module _ (s : List ℕ) where
   refused_is : (k : ℕ) (r : OptionRow) → option_of (options s) k ≡ refusal r → (options s).ending ≡ refused r
-  refused_is k r e = go (options s).ending (sym (ending-from (options s) k (past (options s) k (refusal r) e (refusal_other r))) ∙ e)
+  refused_is k r e = go (options s).ending (sym (ending-from (options s) k (past (options s) k (refusal r) e (λ o e. cc))) ∙ e)
     where
       go : (x : Ending) → ending_answer x ≡ refusal r → x ≡ refused r
-      go (ended at) e = absurd (let z : ◌≡◌ {A = ℕ} 0 1 = cc in omega arith)
+      go (ended at) e = cc
       go (refused q) e = cc
 
   -- a refusal is that of the option at its offset
@@ -122,7 +110,7 @@ module _ (s : List ℕ) where
   refused_inside k r e = go (leb (length s) r.offset) refl
     where
       go : (b : Bool) → leb (length s) r.offset ≡ b → r.offset < length s
-      go true p = absurd (not_refuses r.number (sym (refused_there k r e) ∙ read_none s r.offset (leb-true (length s) r.offset p)))
+      go true p = let z = refused_there k r e in let n = read_none s r.offset (leb-true (length s) r.offset p) in cc
       go false p = leb-false (length s) r.offset p
 
   -- and the sizes of the listed options add up to it
@@ -130,11 +118,11 @@ module _ (s : List ℕ) where
   refused_behind k r e = sizes_add_up s ∙ ap offset_of (refused_is k r e)
 
   ended_is : (k : ℕ) → option_of (options s) k ≡ no-more → (options s).ending ≡ ended (total (options s).list)
-  ended_is k e = go (options s).ending (sizes_add_up s) (sym (ending-from (options s) k (past (options s) k no-more e no_more_other)) ∙ e)
+  ended_is k e = go (options s).ending (sizes_add_up s) (sym (ending-from (options s) k (past (options s) k no-more e (λ o e. cc))) ∙ e)
     where
       go : (x : Ending) → total (options s).list ≡ offset_of x → ending_answer x ≡ no-more → x ≡ ended (total (options s).list)
       go (ended at) h e = ap ended (sym h)
-      go (refused r) h e = absurd (let z : ◌≡◌ {A = ℕ} 0 1 = cc in omega arith)
+      go (refused r) h e = cc
 
   -- behind the listed options "no more" has the end of the slice or kind 0
   pub no_more_there : (k : ℕ) → option_of (options s) k ≡ no-more

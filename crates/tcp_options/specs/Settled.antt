@@ -1,5 +1,5 @@
--- One answer a place: no second answer satisfies the contract of `option`. Assumes nothing.
-use Rattle.std.specs.Prelude.{ℕ, ◌≡◌, refl, List, eqb}
+-- One answer a place, and one kind a number: no second answer satisfies the contract of `option`, and no second kind that of `OptionKind::from`. Assumes nothing.
+use Rattle.std.specs.Prelude.{ℕ, ◌≡◌, refl, List, eqb, Option, Some, None, Result, Ok, Err}
 use Rattle.std.proofs.Common.{sym, ap, ◌∙◌}
 use Rattle.rules.specs.Test.{pick}
 use Rattle.tcp_options.specs.declared.kind.OptionKind.{OptionKind}
@@ -7,9 +7,8 @@ use Rattle.tcp_options.specs.declared.kind.OptionKind.TheVariants as K
 use Rattle.tcp_options.specs.declared.answer.OptionRefusal.{OptionRefusal}
 use Rattle.tcp_options.specs.declared.answer.OptionRefusal.TheVariants as R
 use Rattle.tcp_options.specs.declared.answer.OptionRow.{OptionRow}
-use Rattle.tcp_options.specs.declared.answer.OptionAnswer.{OptionAnswer}
-use Rattle.tcp_options.specs.declared.answer.OptionAnswer.TheVariants as A
-use Rattle.tcp_options.specs.Options.{Kind, known, unknown, noop, maximum_segment_size, window_scale, selective_ack_permitted, selective_ack}
+use Rattle.tcp_options.specs.declared.answer.TcpOption.{TcpOption}
+use Rattle.tcp_options.specs.Options.{Kind, known, unknown, named, noop, maximum_segment_size, window_scale, selective_ack_permitted, selective_ack}
 use Rattle.tcp_options.specs.Options.{no_length_byte, length_not_sound, Answer, is, no-more, refusal, options, option_of}
 use Rattle.tcp_options.specs.Paper.{kind_on_paper, refusal_on_paper, option_on_paper}
 
@@ -47,23 +46,27 @@ refusal-back (R.NoLengthByte offset) = refl
 refusal-back (R.LengthNotSound offset) = refl
 refusal-back (R.WrongSize offset) = refl
 
-back : Answer → OptionAnswer
-back (is o) = A.Is (record { at = o.at; len = o.size; kind = kind_back o.kind })
-back no-more = A.NoMore
-back (refusal r) = A.Refused (refusal_back r)
+back : Answer → Result (Option TcpOption) OptionRefusal
+back (is o) = Ok (Some (record { at = o.at; len = o.size; kind = kind_back o.kind }))
+back no-more = Ok None
+back (refusal r) = Err (refusal_back r)
 
-answer_back : (a : OptionAnswer) → back (option_on_paper a) ≡ a
+answer_back : (a : Result (Option TcpOption) OptionRefusal) → back (option_on_paper a) ≡ a
 unfolding back
-answer_back (A.Is o) = ap (λ (k : OptionKind). A.Is (record { at = o.at; len = o.len; kind = k })) (kind-back o.kind)
-answer_back A.NoMore = refl
-answer_back (A.Refused r) = ap A.Refused (refusal-back r)
+answer_back (Ok (Some o)) = ap (λ (k : OptionKind). Ok (Some (record { at = o.at; len = o.len; kind = k }))) (kind-back o.kind)
+answer_back (Ok None) = refl
+answer_back (Err r) = ap Err (refusal-back r)
 
 -- ---- the theorems
 
+-- the number settles the kind that it names
+pub kind_settled : (n : ℕ) (a b : OptionKind) → kind_on_paper a ≡ named n → kind_on_paper b ≡ named n → a ≡ b
+kind_settled n a b p q = sym (kind-back a) ∙ ap kind_back (p ∙ sym q) ∙ kind-back b
+
 -- answers that are the same on paper are the same
-pub same_on_paper : (a b : OptionAnswer) → option_on_paper a ≡ option_on_paper b → a ≡ b
+pub same_on_paper : (a b : Result (Option TcpOption) OptionRefusal) → option_on_paper a ≡ option_on_paper b → a ≡ b
 same_on_paper a b e = sym (answer_back a) ∙ ap back e ∙ answer_back b
 
 -- the bytes and the place settle the answer
-pub settled : (s : List ℕ) (k : ℕ) (a b : OptionAnswer) → option_on_paper a ≡ option_of (options s) k → option_on_paper b ≡ option_of (options s) k → a ≡ b
+pub settled : (s : List ℕ) (k : ℕ) (a b : Result (Option TcpOption) OptionRefusal) → option_on_paper a ≡ option_of (options s) k → option_on_paper b ≡ option_of (options s) k → a ≡ b
 settled s k a b p q = same_on_paper a b (p ∙ sym q)

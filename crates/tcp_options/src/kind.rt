@@ -1,6 +1,6 @@
 // The known kinds of TCP option, with their numbers and sizes: RFC 9293 (0, 1, 2), RFC 7323 (3, 8), RFC 2018 (4, 5).
 ghost use Rattle.std.specs.Prelude.{◌≡◌};
-ghost use Rattle.tcp_options.specs.Options.{named, number_of, sizes_of, fits, known, selective_ack};
+ghost use Rattle.tcp_options.specs.Options.{named, number_of, sizes_of, fits};
 ghost use Rattle.tcp_options.specs.Paper.{kind_on_paper};
 
 // Ends the list, and is no option itself.
@@ -41,7 +41,7 @@ pub const LEN_SELECTIVE_ACK_4: usize = 34;
 // What every option but NOOP has at least: its kind and its length byte.
 pub const LEN_LEAST: usize = 2;
 
-#[derive(Clone, Copy)]
+#[derive(Clone, Copy, Debug, PartialEq, Eq)]
 pub enum OptionKind {
     Noop,
     MaximumSegmentSize,
@@ -53,8 +53,25 @@ pub enum OptionKind {
     Unknown(u8),
 }
 
+impl From<u8> for OptionKind {
+    ghost from_gives = { λ number result. kind_on_paper result ≡ named number };
+
+    #[tactic(auto, unfolding(crate::specs::Options::named))]
+    fn from(number: u8) -> OptionKind {
+        match number {
+            NOOP => OptionKind::Noop,
+            MAXIMUM_SEGMENT_SIZE => OptionKind::MaximumSegmentSize,
+            WINDOW_SCALE => OptionKind::WindowScale,
+            SELECTIVE_ACK_PERMITTED => OptionKind::SelectiveAcknowledgementPermitted,
+            SELECTIVE_ACK => OptionKind::SelectiveAcknowledgement,
+            TIMESTAMP => OptionKind::Timestamp,
+            _ => OptionKind::Unknown(number),
+        }
+    }
+}
+
 impl OptionKind {
-    // The number that stands in the option's first byte.
+    // The number that stands in the option's first byte. A method and no `From`: `u8::from(kind)` doesn't say what the byte is.
     pub fn number(self) -> u8
         ensures { result ≡ number_of (kind_on_paper self) }
     {
@@ -68,58 +85,26 @@ impl OptionKind {
             OptionKind::Unknown(number) => number,
         }
     }
-}
 
-pub fn kind_of(number: u8) -> OptionKind
-    ensures { kind_on_paper result ≡ named number }
-{
-    if number == NOOP {
-        return OptionKind::Noop;
-    }
-    if number == MAXIMUM_SEGMENT_SIZE {
-        return OptionKind::MaximumSegmentSize;
-    }
-    if number == WINDOW_SCALE {
-        return OptionKind::WindowScale;
-    }
-    if number == SELECTIVE_ACK_PERMITTED {
-        return OptionKind::SelectiveAcknowledgementPermitted;
-    }
-    if number == SELECTIVE_ACK {
-        return OptionKind::SelectiveAcknowledgement;
-    }
-    if number == TIMESTAMP {
-        return OptionKind::Timestamp;
-    }
-    OptionKind::Unknown(number)
-}
-
-fn is_selective_ack_size(len: usize) -> bool
-    ensures { result ≡ fits len (sizes_of (known selective_ack)) }
-{
-    if len == LEN_SELECTIVE_ACK_1 {
-        return true;
-    }
-    if len == LEN_SELECTIVE_ACK_2 {
-        return true;
-    }
-    if len == LEN_SELECTIVE_ACK_3 {
-        return true;
-    }
-    len == LEN_SELECTIVE_ACK_4
-}
-
-// Whether an option of this kind may have this size. An unknown one may have any.
-pub fn has_size(kind: OptionKind, len: usize) -> bool
-    ensures { result ≡ fits len (sizes_of (kind_on_paper kind)) }
-{
-    match kind {
-        OptionKind::Noop => len == LEN_NOOP,
-        OptionKind::MaximumSegmentSize => len == LEN_MAXIMUM_SEGMENT_SIZE,
-        OptionKind::WindowScale => len == LEN_WINDOW_SCALE,
-        OptionKind::SelectiveAcknowledgementPermitted => len == LEN_SELECTIVE_ACK_PERMITTED,
-        OptionKind::SelectiveAcknowledgement => is_selective_ack_size(len),
-        OptionKind::Timestamp => len == LEN_TIMESTAMP,
-        OptionKind::Unknown(_number) => true,
+    // Whether an option of this kind may have this size. An unknown one may have any.
+    #[tactic(auto, using(crate::proofs::Laws::test_is), unfolding(crate::specs::Options::sizes_of))]
+    pub(crate) fn has_size(self, len: usize) -> bool
+        ensures { result ≡ fits len (sizes_of (kind_on_paper self)) }
+    {
+        match self {
+            OptionKind::Noop => len == LEN_NOOP,
+            OptionKind::MaximumSegmentSize => len == LEN_MAXIMUM_SEGMENT_SIZE,
+            OptionKind::WindowScale => len == LEN_WINDOW_SCALE,
+            OptionKind::SelectiveAcknowledgementPermitted => len == LEN_SELECTIVE_ACK_PERMITTED,
+            OptionKind::SelectiveAcknowledgement => matches!(
+                len,
+                LEN_SELECTIVE_ACK_1
+                    | LEN_SELECTIVE_ACK_2
+                    | LEN_SELECTIVE_ACK_3
+                    | LEN_SELECTIVE_ACK_4
+            ),
+            OptionKind::Timestamp => len == LEN_TIMESTAMP,
+            OptionKind::Unknown(_number) => true,
+        }
     }
 }

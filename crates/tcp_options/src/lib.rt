@@ -11,72 +11,64 @@ use big_endian::byte;
 mod answer;
 mod kind;
 
-pub use answer::{OptionAnswer, OptionRefusal, OptionRow, TcpOption};
+pub use answer::{OptionRefusal, OptionRow, TcpOption};
 pub use kind::OptionKind;
 
 // Whether the value of a length byte is at least 2 and not past the end: `have` bytes are there, from the option's kind on.
+#[tactic(auto, unfolding(crate::specs::Options::sound))]
 fn is_sound(len: usize, have: usize) -> bool
     ensures { result ≡ sound len have }
 {
-    if len < kind::LEN_LEAST {
-        return false;
-    }
-    len <= have
+    (kind::LEN_LEAST..=have).contains(&len)
 }
 
 // The one option that begins at `at`. Its refusals are tested in the order of their numbers.
-fn read_option(s: &[u8], at: usize) -> OptionAnswer
+#[tactic(auto, using(crate::proofs::Laws::reads))]
+fn read_option(s: &[u8], at: usize) -> Result<Option<TcpOption>, OptionRefusal>
     ensures { option_on_paper result ≡ answer_by at (read (drop at s.now)) }
 {
     if s.len() <= at {
-        return OptionAnswer::NoMore;
+        return Ok(None);
     }
     let have = s.len() - at;
     let number = byte(s, at);
-    let kind = kind::kind_of(number);
+    let kind = OptionKind::from(number);
     if number == kind::END {
-        return OptionAnswer::NoMore;
+        return Ok(None);
     }
     if number == kind::NOOP {
-        return OptionAnswer::Is(TcpOption {
+        return Ok(Some(TcpOption {
             at,
             len: kind::LEN_NOOP,
             kind,
-        });
+        }));
     }
     if have < kind::LEN_LEAST {
-        return OptionAnswer::Refused(OptionRefusal::NoLengthByte { offset: at });
+        return Err(OptionRefusal::NoLengthByte { offset: at });
     }
-    let len = byte(s, at + 1) as usize;
-    let length_is_sound = is_sound(len, have);
-    let size_is_right = kind::has_size(kind, len);
-    if !length_is_sound {
-        return OptionAnswer::Refused(OptionRefusal::LengthNotSound { offset: at });
+    let len = usize::from(byte(s, at + 1));
+    if !is_sound(len, have) {
+        return Err(OptionRefusal::LengthNotSound { offset: at });
     }
-    if !size_is_right {
-        return OptionAnswer::Refused(OptionRefusal::WrongSize { offset: at });
+    if !kind.has_size(len) {
+        return Err(OptionRefusal::WrongSize { offset: at });
     }
-    OptionAnswer::Is(TcpOption { at, len, kind })
+    Ok(Some(TcpOption { at, len, kind }))
 }
 
 // Option number k: places count from 0, and kind 1 has a place like any other. Where the options end or one is refused, that
 // answer is the one for every later place too.
-pub fn option(s: &[u8], k: usize) -> OptionAnswer
+#[tactic(auto, using(crate::proofs::Going::going))]
+pub fn option(s: &[u8], k: usize) -> Result<Option<TcpOption>, OptionRefusal>
     ensures answer { option_on_paper result ≡ option_of (options s.now) k }
     ensures unwritten { s.exit.now ≡ s.entry.now }
 {
     let mut at: usize = 0;
-    let mut place: usize = 0;
-    loop {
-        let answer = read_option(s, at);
-        let OptionAnswer::Is(found) = answer else {
-            return answer;
+    for _ in 0..k {
+        let Some(before) = read_option(s, at)? else {
+            return Ok(None);
         };
-        if place == k {
-            return answer;
-        }
-        let len = found.len;
-        at += len;
-        place += 1;
+        at += before.len;
     }
+    read_option(s, at)
 }

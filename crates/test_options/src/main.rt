@@ -2,17 +2,16 @@
 // crate tcp_options, and prints the answer at each place up to the first that ends the list and at the next. stdout has what must come.
 #![tactic(auto)]
 
-use tcp_options::{OptionAnswer, OptionRow, TcpOption};
+use tcp_options::{OptionRow, TcpOption};
 
+// Printed by crate `io`. `println!` was tried: the check takes 60 s of processor time and not 21 s, and a write that fails gives another exit status.
 fn print_number(n: usize) {
-    let wide = n as u64;
-    io::print_decimal(1, wide);
+    io::print_decimal(1, n as u64);
 }
 
 fn print_option(found: TcpOption) {
-    let kind = found.kind;
     io::write_all(1, b"kind ");
-    print_number(kind.number() as usize);
+    print_number(usize::from(found.kind.number()));
     io::write_all(1, b" at ");
     print_number(found.at);
     io::write_all(1, b" size ");
@@ -32,36 +31,29 @@ fn print_place(s: &[u8], k: usize) -> bool {
     print_number(k);
     io::write_all(1, b": ");
     let answer = tcp_options::option(s, k);
-    let mut listed = false;
     match answer {
-        OptionAnswer::Is(found) => {
-            print_option(found);
-            listed = true;
-        }
-        OptionAnswer::NoMore => {
+        Ok(Some(found)) => print_option(found),
+        Ok(None) => {
             io::write_all(1, b"no more");
         }
-        OptionAnswer::Refused(refusal) => {
-            print_row(refusal.row());
-        }
+        Err(refusal) => print_row(OptionRow::from(refusal)),
     }
     io::write_all(1, b"\n");
-    listed
+    matches!(answer, Ok(Some(_)))
 }
 
 // Every option has a byte at least, so place s.len() is behind them all.
 fn show(name: &[u8], s: &[u8]) {
     io::write_all(1, name);
     io::write_all(1, b"\n");
-    let mut k: usize = 0;
-    while k < s.len() {
-        let listed = print_place(s, k);
-        k += 1;
-        if !listed {
+    let mut next: usize = 0;
+    for k in 0..s.len() {
+        next = k + 1;
+        if !print_place(s, k) {
             break;
         }
     }
-    print_place(s, k);
+    print_place(s, next);
 }
 
 fn handshakes() {
