@@ -10,8 +10,8 @@ use lib.Dec.{leb}
 use lib.ListN.{length, take, set, get_or, length-append, length-replicate}
 use lib.Seq.{sets, length-sets, set_out, append_snoc, take-suc, take_all}
 use borrow.Author.Tests.{leb-true, leb-false, le-leb, lt-leb}
+use Rattle.std.specs.Prelude.{Some, None}
 use Rattle.laws.specs.Zeros.{zeros}
-use Rattle.printing.specs.declared.Printed.TheVariants.{Whole, Cut}
 use Rattle.printing.specs.Put.{printed_in, printed_by, Wrote, Word}
 
 -- ---- runs of stores
@@ -86,14 +86,14 @@ module _ (t : List ℕ) (n : ℕ) {b o : List ℕ} {r : ℕ} (z : b ≡ zeros n)
   ended : (length o ≡ n) × (r ≡ min (length t) (n + 1))
   ended = (wrote_length w ∙ zeroed, omega (arith, w.reached, zeroed))
 
-  pub printed_whole : r ≤ length o → (o ≡ printed_in t n) × (Whole r ≡ printed_by t n)
+  pub printed_whole : r ≤ length o → (o ≡ printed_in t n) × (Some r ≡ printed_by t n)
   unfolding printed_in printed_by
   printed_whole h =
       let e = ended in
       let f : length t ≤ n = omega (arith, e.0, e.1) in
       let same : r ≡ length t = omega (arith, e.1) in
-      rw (le-leb (length t) n f) (w.stored ∙ ap (λ (l : List ℕ). sets l 0 t) z ∙ sets_zeros t n f, ap Whole same)
+      rw (le-leb (length t) n f) (w.stored ∙ ap (λ (l : List ℕ). sets l 0 t) z ∙ sets_zeros t n f, ap Some same)
 
-  pub printed_cut : {o' : List ℕ} → length o < r → o' ≡ zeros (length o) → (o' ≡ printed_in t n) × (Cut ≡ printed_by t n)
+  pub printed_cut : {o' : List ℕ} → length o < r → o' ≡ zeros (length o) → (o' ≡ printed_in t n) × (None ≡ printed_by t n)
   unfolding printed_in printed_by
   printed_cut h c = let e = ended in rw (lt-leb (length t) n (omega (arith, e.0, e.1))) (c ∙ ap zeros e.0, refl)

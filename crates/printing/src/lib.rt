@@ -16,13 +16,6 @@ use write::clear;
 mod line;
 mod write;
 
-// `Whole`: the buffer's first so many bytes are the whole text. `Cut`: the text does not fit the buffer.
-#[derive(Clone, Copy)]
-pub enum Printed {
-    Whole(usize),
-    Cut,
-}
-
 // The text of an accepted frame: a line for each header, from place to place, and the lines of the ending.
 fn accepted_lines(out: &mut [u8], s: &[u8], entry: Entry) -> usize
     requires { Accepts (slices entry s.now) }
@@ -77,9 +70,10 @@ fn lines(s: &[u8], entry: Entry, out: &mut [u8]) -> usize
     }
 }
 
+// The buffer's first so many bytes are the whole text, or it does not fit the buffer.
 // A cut text reads as a whole one, and so does a short text in front of the rest of an earlier, longer one. So `out` is cleared
 // before the text is written, and again where the text does not fit.
-pub fn print(s: &[u8], entry: Entry, out: &mut [u8]) -> Printed
+pub fn print(s: &[u8], entry: Entry, out: &mut [u8]) -> Option<usize>
     ensures text { out.new ≡ printed_in (text_of entry s.now) (length out.old) }
     ensures answer { result ≡ printed_by (text_of entry s.now) (length out.old) }
     ensures unwritten { s.exit.now ≡ s.entry.now }
@@ -88,7 +82,7 @@ pub fn print(s: &[u8], entry: Entry, out: &mut [u8]) -> Printed
     let past = lines(s, entry, out);
     if out.len() < past {
         clear(out);
-        return Printed::Cut;
+        return None;
     }
-    Printed::Whole(past)
+    Some(past)
 }
