@@ -1,5 +1,6 @@
 // A failed test: as a reader tells it, which knows no offset; and as a frame's refusal, with its place.
 ghost use Rattle.std.specs.Prelude.{◌≡◌};
+ghost use Rattle.rules.specs.Named.{layer_number};
 ghost use Rattle.rules.specs.Paper.{fault_on_paper, refusal_on_paper};
 ghost use Rattle.rules.specs.Test.{bound_by, placed};
 
@@ -125,6 +126,20 @@ pub struct Row {
 }
 
 impl Refusal {
+    // The layer whose test failed.
+    pub fn layer(self) -> Layer
+        ensures { layer_number result ≡ (refusal_on_paper self).layer }
+    {
+        match self {
+            Refusal::TooShort { layer, .. } => layer,
+            Refusal::Ipv4Version { .. } | Refusal::SmallIhl { .. } => Layer::Of(Kind::Ipv4),
+            Refusal::Ipv6Version { .. } => Layer::Of(Kind::Ipv6),
+            Refusal::HopByHopNotAtStart { .. } => Layer::Of(Kind::HopByHop),
+            Refusal::ZeroAuthLength { .. } => Layer::Of(Kind::Auth),
+            Refusal::SmallDataOffset { .. } => Layer::Of(Kind::Tcp),
+        }
+    }
+
     pub fn row(self) -> Row
         ensures { result ≡ refusal_on_paper self }
     {
