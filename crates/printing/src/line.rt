@@ -5,11 +5,10 @@ ghost use Rattle.rules.specs.Paper.{refusal_on_paper};
 ghost use Rattle.rules.specs.Place.{ending_on_paper};
 ghost use Rattle.printing.specs.Text.{
   header_line,
-  payload_line,
-  stop_line,
   ending_lines,
   refused_line,
   decimal,
+  line,
   rest_of_line,
   rest_of_refused,
   shortage,
@@ -21,42 +20,33 @@ use crate::write::Printer;
 use rules::{Ending, Kind, Refusal, Source};
 
 impl Printer<'_> {
+    // A name, an offset and a length.
+    fn range_line(&mut self, name: &str, offset: usize, len: usize)
+        ensures { Wrote (line (name.now ∷ decimal offset ∷ decimal len ∷ [])) self.old self.new }
+    {
+        self.text(name);
+        self.text(" ");
+        self.number(offset);
+        self.text(" ");
+        self.number(len);
+        self.text("\n");
+    }
+
+    #[tactic(auto, unfolding(crate::specs::Text::header_line))]
     pub fn header_line(&mut self, kind: Kind, offset: usize, len: usize)
         ensures { Wrote (header_line (kind_number kind) offset len) self.old self.new }
     {
-        self.text(kind_name(kind));
-        self.text(" ");
-        self.number(offset);
-        self.text(" ");
-        self.number(len);
-        self.text("\n");
-    }
-
-    fn payload_line(&mut self, offset: usize, len: usize)
-        ensures { Wrote (payload_line offset len) self.old self.new }
-    {
-        self.text("payload ");
-        self.number(offset);
-        self.text(" ");
-        self.number(len);
-        self.text("\n");
-    }
-
-    fn stop_line(&mut self, stop: usize)
-        ensures { Wrote (stop_line stop) self.old self.new }
-    {
-        self.text("stop ");
-        self.number(stop);
-        self.text("\n");
+        self.range_line(kind_name(kind), offset, len);
     }
 
     pub fn ending_lines(&mut self, ending: Ending)
         ensures { Wrote (ending_lines (ending_on_paper ending)) self.old self.new }
     {
-        let payload = ending.payload;
-        let stop = ending.stop;
-        self.payload_line(payload.at, payload.len);
-        self.stop_line(stop.number());
+        let Ending { payload, stop, .. } = ending;
+        self.range_line("payload", payload.at, payload.len);
+        self.text("stop ");
+        self.number(stop.number());
+        self.text("\n");
     }
 
     pub fn refused_line(&mut self, refusal: Refusal)

@@ -1,6 +1,5 @@
 // A text written piece by piece into a lent buffer.
-// `fmt::Write` and `write!` do not serve here: they promise bytes after an Ok alone and nothing of an Err, and `print` promises
-// its None exactly where the text does not fit.
+// Not by `write!` into a `fmt::Write`: it promises nothing of an Err, and `print` answers None exactly where the text does not fit.
 ghost use Rattle.std.specs.Prelude.{[], ◌∷◌};
 ghost use Rattle.printing.specs.Text.{decimal};
 ghost use Rattle.printing.specs.Put.{Wrote};
@@ -40,9 +39,10 @@ impl Printer<'_> {
     pub fn number(&mut self, n: usize)
         ensures { Wrote (decimal n) self.old self.new }
     {
-        if n >= 10 {
-            self.number(n / 10);
+        if n < 10 {
+            return self.push(ZERO + n as u8);
         }
+        self.number(n / 10);
         self.push(ZERO + (n % 10) as u8);
     }
 }
