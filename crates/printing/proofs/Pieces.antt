@@ -1,20 +1,17 @@
 -- Pieces of a text, one behind the other. Assumes nothing.
-use Prim.Native.Nat.{ℕ, zero, suc, ◌+◌, ◌-◌, ◌≤◌, ◌<◌}
-use mathlib.Core.Path.{◌≡◌, refl, sym, ap, ◌∙◌}
+use Prim.Native.Nat.{ℕ, suc, ◌+◌, ◌-◌, ◌≤◌, ◌<◌}
+use mathlib.Core.Path.{◌≡◌, refl, ap, ◌∙◌}
 use mathlib.Core.List.{List, [], ◌∷◌, ◌++◌, append_assoc, append-nil}
 use native.Mathlib.Omega.{arith}
-use native.Mathlib.Numerals.{add-one}
-use lib.Dec.{leb}
-use lib.ListN.{length, take, set, get_or, length-append, length-set, length-replicate}
-use lib.Seq.{take-suc, take_all}
+use lib.ListN.{length, set, length-append, length-set, length-replicate}
 use borrow.Author.Tests.{le-leb, lt-leb}
-use Rattle.std.specs.Prelude.{Bool, true, false, Option, Some, None}
-use Rattle.std.specs.Option.{is_some}
+use Rattle.std.specs.Prelude.{true, false, Option, Some, None}
+use Rattle.std.specs.Option.{is_some, unwrap_or}
 use Rattle.printing.specs.Clash.{clash}
 use Rattle.laws.specs.Zeros.{zeros}
 use Rattle.printing.specs.declared.write.Printer.{Printer}
 use Rattle.printing.specs.Put.{printed_in, printed_by, Holds, Wrote}
-use Rattle.printing.specs.Told.{Told, told_whole, told-cut}
+use Rattle.printing.specs.Told.{told_whole, told-cut}
 
 -- ---- one byte
 
@@ -77,17 +74,9 @@ wrote_none p = record { same = refl; long = refl; holds = λ w h. rw append-nil 
 pub wrote_then : {t u : List ℕ} {p q r : Printer} → Wrote t p q → Wrote u q r → Wrote (t ++ u) p r
 wrote_then {t} {u} a b = record { same = b.same ∙ a.same; long = b.long ∙ a.long; holds = λ w h. rw (append_assoc w t u) at (b.holds (w ++ t) (a.holds w h)) }
 
--- the text so far, and one byte more
-pub wrote_more : (t : List ℕ) (i : ℕ) {p q r : Printer} → i < length t → Wrote (take i t) p q → Wrote (get_or t i 0 ∷ []) q r → Wrote (take (i + 1) t) p r
-wrote_more t i h x y = rw (add-one, take-suc t i 0 h) (wrote_then x y)
-
 -- ---- the whole
 
-abbrev or_zero : Option ℕ → ℕ
-or_zero (Some k) = k
-or_zero None = 0
-
-some_is : (r : Option ℕ) → is_some r ≡ true → r ≡ Some (or_zero r)
+some_is : (r : Option ℕ) → is_some r ≡ true → r ≡ Some (unwrap_or r 0)
 some_is (Some k) e = refl
 some_is None e = clash (cc)
 

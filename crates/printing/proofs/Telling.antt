@@ -1,6 +1,6 @@
 -- The loop over an accepted frame's headers: what was printed, and what is still to come. Assumes nothing.
 use Prim.Native.Nat.{ℕ, ◌-◌, ◌<◌}
-use mathlib.Core.Path.{◌≡◌, refl, sym, ap, ◌∙◌, subst}
+use mathlib.Core.Path.{◌≡◌, refl, sym, ap, ◌∙◌}
 use mathlib.Core.List.{List, [], ◌++◌, append_assoc}
 use native.Mathlib.Omega.{arith}
 use Rattle.rules.specs.declared.entry.Entry.{Entry}
@@ -10,7 +10,7 @@ use Rattle.rules.specs.declared.refusal.Row.{Row}
 use Rattle.rules.specs.declared.stop.Ending.{Ending}
 use Rattle.rules.specs.Named.{kind_number}
 use Rattle.rules.specs.Place.{Stopped, ending_on_paper, Follow, next, halt, wrong, Found, PlaceRead, reads, refuses, read, opening}
-use Rattle.rules.specs.Walk.{Trace, accepted, refused, unfinished, HeaderAt, header_at, behind, onward, step as taken, trace, slices}
+use Rattle.rules.specs.Walk.{Trace, accepted, HeaderAt, header_at, behind, onward, step as taken, trace, slices}
 use Rattle.laws.specs.Reads.{goes}
 use Rattle.laws.specs.Walks.{trace-step}
 use Rattle.steps.specs.declared.place.Step.{Step}
@@ -25,12 +25,6 @@ use Rattle.printing.proofs.Valid.{Valid, says, valid_first, valid_next}
 
 -- ---- an accepted walk behind its first header
 
-not_refused : {t : Trace HeaderAt} {hs : List HeaderAt} {r : Row} → Accepts t → t ≡ refused hs r → ⊥
-not_refused accepts e = clash (cc)
-
-not_unfinished : {t : Trace HeaderAt} → Accepts t → t ≡ unfinished → ⊥
-not_unfinished accepts e = clash (cc)
-
 record Behind (h : HeaderAt) (t : Trace HeaderAt) : Type 0 where
   accepts : Accepts t
   lines : text (behind h t) ≡ line_of h ++ text t
@@ -38,8 +32,7 @@ record Behind (h : HeaderAt) (t : Trace HeaderAt) : Type 0 where
 behind_first : (h : HeaderAt) (t : Trace HeaderAt) → Accepts (behind h t) → Behind h t
 unfolding text header_lines
 behind_first h (accepted hs x) a = record { accepts = accepts; lines = append_assoc (line_of h) (header_lines hs) (ending_lines x) }
-behind_first h (refused hs r) a = absurd (not_refused a refl)
-behind_first h unfinished a = absurd (not_unfinished a refl)
+behind_first h t a = elim a [ ]
 
 -- ---- what a step says of the reading
 
@@ -55,17 +48,15 @@ onward_next (reads x) {len} {q} e = go x.follow refl e
   where
     go : (f : Follow) → x.follow ≡ f → leads x.len f ≡ on len (place_on_paper q) → Onward (reads x) len (next q)
     go (next p) h k = record { found = x; whole = refl; long = cc; follows = h ∙ ap next (same_place k) }
-    go (halt y) h k = clash (cc)
-    go (wrong r) h k = clash (cc)
+    go f h k = clash (cc)
 
 onward_last : (d : PlaceRead) {len : ℕ} {y : Stopped} → steps d ≡ last len y → Onward d len (halt y)
 onward_last (refuses r) e = clash (cc)
 onward_last (reads x) {len} {y} e = go x.follow refl e
   where
     go : (f : Follow) → x.follow ≡ f → leads x.len f ≡ last len y → Onward (reads x) len (halt y)
-    go (next p) h k = clash (cc)
     go (halt w) h k = let z : w ≡ y = cc in record { found = x; whole = refl; long = cc; follows = h ∙ ap halt z }
-    go (wrong r) h k = clash (cc)
+    go f h k = clash (cc)
 
 -- ---- the loop
 
@@ -136,13 +127,12 @@ module _ {s wanted : List ℕ} {p : Place} {first now : Printer} (t : Telling s 
   telling_refused i = go (read s p) (told ∙ ap step_on_paper i) (rw (trace-step s p) at t.accepts)
     where
       go : (d : PlaceRead) → {r : Row} → steps d ≡ shut r → Accepts (taken p d (trace s)) → ⊥
-      go (refuses w) k a = not_refused a refl
+      go (refuses w) k a = elim a [ ]
       go (reads x) k a = on_follow x.follow k a
         where
           on_follow : (f : Follow) → {r : Row} → leads x.len f ≡ shut r → Accepts (behind (header_at p x) (onward s f)) → ⊥
-          on_follow (next q) k a = clash (cc)
-          on_follow (halt w) k a = clash (cc)
-          on_follow (wrong w) k a = not_refused a refl
+          on_follow (wrong w) k a = elim a [ ]
+          on_follow f k a = clash (cc)
 
   pub telling_no_place : step ≡ S.NotAPlace → ⊥
   telling_no_place i = go (read s p) (told ∙ ap step_on_paper i)
@@ -153,5 +143,4 @@ module _ {s wanted : List ℕ} {p : Place} {first now : Printer} (t : Telling s 
         where
           on_follow : (f : Follow) → leads x.len f ≡ not_a_place → ⊥
           on_follow (next q) k = clash (cc)
-          on_follow (halt w) k = clash (cc)
-          on_follow (wrong w) k = clash (cc)
+          on_follow f k = clash (cc)

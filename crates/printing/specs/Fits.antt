@@ -65,8 +65,7 @@ module _ (s : List ℕ) (b : Bytes (byte_at s)) where
 opening-small : (e : Entry) (s : List ℕ) {r : Row} → opening e s ≡ wrong r → SmallRow r
 unfolding opening
 opening-small E.Ethernet s q = clash (cc)
-opening-small E.Ipv4 s q = clash (cc)
-opening-small E.Ipv6 s q = clash (cc)
+opening-small e s q = clash (cc)
 
 -- 262,211
 abbrev pub text_limit : ℕ
