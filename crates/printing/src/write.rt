@@ -4,9 +4,6 @@ ghost use Rattle.std.specs.Prelude.{[], ◌∷◌};
 ghost use Rattle.printing.specs.Text.{decimal};
 ghost use Rattle.printing.specs.Put.{Wrote};
 
-// The digit 0.
-const ZERO: u8 = b'0';
-
 #[derive(Drop)]
 pub struct Printer<'a> {
     pub out: &'a mut [u8],
@@ -40,9 +37,9 @@ impl Printer<'_> {
         ensures { Wrote (decimal n) self.old self.new }
     {
         if n < 10 {
-            return self.push(ZERO + n as u8);
+            return self.push(b'0' + n as u8);
         }
         self.number(n / 10);
-        self.push(ZERO + (n % 10) as u8);
+        self.push(b'0' + (n % 10) as u8);
     }
 }

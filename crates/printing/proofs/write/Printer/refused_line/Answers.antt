@@ -1,7 +1,6 @@
 -- `write::Printer::refused_line` meets its contract. Assumes nothing.
-use mathlib.Core.List.{List, ◌++◌}
+use mathlib.Core.List.{List, [], ◌∷◌, ◌++◌}
 use mathlib.Core.Path.{◌≡◌, refl}
-use mathlib.Core.List.{[], ◌∷◌}
 use Prim.Native.Nat.{ℕ}
 use Rattle.rules.specs.declared.refusal.Row.{Row}
 use Rattle.printing.specs.declared.write.Printer.{Printer}
