@@ -1,99 +1,113 @@
 -- Pieces of a text, one behind the other. Assumes nothing.
-use Prim.Native.Nat.{ℕ, zero, suc, ◌+◌, ◌-◌, ◌≤◌, ◌<◌, min}
-use mathlib.Core.Path.{◌≡◌, refl, sym, ap, ◌∙◌}
-use mathlib.Core.List.{List, [], ◌∷◌, ◌++◌}
-use mathlib.Core.Bool.{Bool, true, false}
+use Prim.Native.Nat.{ℕ, suc, ◌+◌, ◌-◌, ◌≤◌, ◌<◌}
+use mathlib.Core.Path.{◌≡◌, refl, ap, ◌∙◌}
+use mathlib.Core.List.{List, [], ◌∷◌, ◌++◌, append_assoc, append-nil}
 use native.Mathlib.Omega.{arith}
-use native.Mathlib.Nat.{add-zero, add-suc, suc-add, sub-zero, suc-sub-suc}
-use native.Mathlib.Numerals.{add-one}
-use lib.Dec.{leb}
-use lib.ListN.{length, take, set, get_or, length-append, length-replicate}
-use lib.Seq.{sets, length-sets, set_out, append_snoc, take-suc, take_all}
-use borrow.Author.Tests.{leb-true, leb-false, le-leb, lt-leb}
+use lib.ListN.{length, set, length-append, length-set, length-replicate}
+use borrow.Author.Tests.{le-leb, lt-leb}
+use Rattle.std.specs.Prelude.{true, false, Option, Some, None}
+use Rattle.std.specs.Option.{is_some, unwrap_or}
+use Rattle.printing.specs.Clash.{clash}
 use Rattle.laws.specs.Zeros.{zeros}
-use Rattle.printing.specs.declared.Printed.TheVariants.{Whole, Cut}
-use Rattle.printing.specs.Put.{printed_in, printed_by, Wrote, Word}
+use Rattle.printing.specs.declared.write.Printer.{Printer}
+use Rattle.printing.specs.Put.{printed_in, printed_by, Holds, Wrote}
+use Rattle.printing.specs.Told.{told_whole, told-cut}
 
--- ---- runs of stores
+-- ---- one byte
 
-sets_append : (t u o : List ℕ) (at : ℕ) → sets o at (t ++ u) ≡ sets (sets o at t) (at + length t) u
-sets_append [] u o at = rw add-zero
-sets_append (b ∷ t) u o at = sets_append t u (set o at b) (suc at) ∙ rw (add-suc, suc-add)
+-- the first zero behind w made a byte
+set_behind : (w : List ℕ) (b k : ℕ) → set (w ++ zeros (suc k)) (length w) b ≡ (w ++ (b ∷ [])) ++ zeros k
+set_behind [] b k = refl
+set_behind (x ∷ w) b k = ap (λ (l : List ℕ). x ∷ l) (set_behind w b k)
 
--- past the end nothing is stored
-sets_out : (t o : List ℕ) (at : ℕ) → length o ≤ at → sets o at t ≡ o
-sets_out [] o at h = refl
-sets_out (b ∷ t) o at h = rw (set_out o at b h) (sets_out t o (suc at) (omega arith))
+module _ {w : List ℕ} {p : Printer} (h : Holds w p) where
+  -- the text fits where the printer has its length
+  fitting : {a : ℕ} → p.len ≡ Some a → (a ≡ length w) × (length w ≤ length p.out.now)
+  fitting i = let z = told_whole w (length p.out.now) h.told {o = printed_in w (length p.out.now)} refl i in (z.long, omega (arith, z.long, z.fits))
 
-pub wrote_none : (o : List ℕ) (at : ℕ) → Wrote [] o at o at
-wrote_none o at = record { stored = refl; reached = omega arith }
+module _ {t : List ℕ} {q : Printer} where
+  holds_whole : length t ≤ length q.out.now → q.len ≡ Some (length t) → q.out.now ≡ t ++ zeros (length q.out.now - length t) → Holds t q
+  unfolding printed_by
+  holds_whole f l e = record { told = rw (le-leb (length t) (length q.out.now) f) l; there = λ _. e }
 
-module _ {t u o o₁ o₂ : List ℕ} {at r₁ r₂ : ℕ} where
-  pub wrote_then : Wrote t o at o₁ r₁ → Wrote u o₁ r₁ o₂ r₂ → Wrote (t ++ u) o at o₂ r₂
-  wrote_then a b = record { stored = b.stored ∙ go (leb (at + length t) (length o + 1)) refl; reached = there }
+  holds_none : length q.out.now < length t → q.len ≡ None → Holds t q
+  unfolding printed_by
+  holds_none f l = record { told = rw (lt-leb (length t) (length q.out.now) f) l; there = λ z. absurd (omega arith) }
+
+module _ {p q : Printer} {b : ℕ} (s : q.out.ghost_name ≡ p.out.ghost_name) where
+  -- it fits
+  pub pushed : {a : ℕ} → p.len ≡ Some a → a < length p.out.now → q.out.now ≡ set p.out.now a b → q.len ≡ Some (a + 1) → Wrote (b ∷ []) p q
+  pushed {a} i f e l = record { same = s; long = long; holds = holds }
     where
-      same : length o₁ ≡ length o
-      same = ap length a.stored ∙ length-sets o at t
+      long : length q.out.now ≡ length p.out.now
+      long = ap length e ∙ length-set p.out.now a b
 
-      there : r₂ ≡ at + min (length (t ++ u)) (length o + 1 - at)
-      there = let p = a.reached in let q = b.reached in let l = length-append t u in let e = same in omega arith
+      holds : (w : List ℕ) → Holds w p → Holds (w ++ (b ∷ [])) q
+      holds w h =
+          let z = fitting h i in
+          let k = length p.out.now - suc (length w) in
+          let n = length-append w (b ∷ []) in
+          let behind : length p.out.now - length w ≡ suc k = omega (arith, z.0) in
+          let here : p.out.now ≡ w ++ zeros (suc k) = rw behind at (h.there z.1) in
+          let rest : k ≡ length q.out.now - length (w ++ (b ∷ [])) = omega (arith, long, n) in
+          let all : a + 1 ≡ length (w ++ (b ∷ [])) = omega (arith, n, z.0) in
+          holds_whole (omega (arith, n, z.0, long)) (l ∙ ap Some all)
+          (e ∙ ap (λ (l : List ℕ). set l a b) here ∙ rw z.0 (set_behind w b k) ∙ ap (λ (j : ℕ). (w ++ (b ∷ [])) ++ zeros j) rest)
 
-      go : (c : Bool) → leb (at + length t) (length o + 1) ≡ c → sets o₁ r₁ u ≡ sets o at (t ++ u)
-      go true e =
-          let h = leb-true (at + length t) (length o + 1) e in
-          let p = a.reached in
-          let z : r₁ ≡ at + length t = omega arith in
-          rw (z, a.stored) (sym (sets_append t u o at))
-      go false e =
-          let h = leb-false (at + length t) (length o + 1) e in
-          let p = a.reached in
-          let q = same in
-          sets_out u o₁ r₁ (omega arith)
-          ∙ a.stored
-          ∙ sym (sets_append t u o at ∙ sets_out u (sets o at t) (at + length t) (rw length-sets (omega arith)))
+  module _ (e : q.out.now ≡ p.out.now) (l : q.len ≡ None) where
+    shut : ((w : List ℕ) → Holds w p → length p.out.now < length w + 1) → Wrote (b ∷ []) p q
+    shut f = record { same = s; long = ap length e; holds = λ w h. let n = length-append w (b ∷ []) in holds_none (rw (e, n) (f w h)) l }
 
--- a word with the byte behind it, and what follows
-pub wrote_word : {w u o o₁ o₂ : List ℕ} {b at r₁ r₂ : ℕ} → Word w b o at o₁ r₁ → Wrote u o₁ r₁ o₂ r₂ → Wrote (w ++ (b ∷ u)) o at o₂ r₂
-wrote_word {w} {u} {b = b} x y = rw (append_snoc w b u) at (wrote_then x.wrote y)
+    -- the buffer is full
+    pub filled : {a : ℕ} → p.len ≡ Some a → length p.out.now ≤ a → Wrote (b ∷ []) p q
+    filled i f = shut (λ w h. omega (arith, fitting h i, f))
 
--- the word so far, and one byte more; the whole word, and the byte behind it
-module _ {o o₁ o₂ : List ℕ} {at r₁ r₂ : ℕ} (w : List ℕ) (i : ℕ) (x : Wrote (take i w) o at o₁ r₁) where
-  pub wrote_more : i < length w → Wrote (get_or w i 0 ∷ []) o₁ r₁ o₂ r₂ → Wrote (take (i + 1) w) o at o₂ r₂
-  wrote_more h y = rw (add-one, take-suc w i 0 h) (wrote_then x y)
+    -- an earlier byte did not fit
+    pub closed : p.len ≡ None → Wrote (b ∷ []) p q
+    closed i = shut (λ w h. let z = told-cut w (length p.out.now) h.told i in omega (arith, z))
 
-  pub wrote_ended : {b : ℕ} → length w ≤ i → Wrote (b ∷ []) o₁ r₁ o₂ r₂ → Word w b o at o₂ r₂
-  wrote_ended h y = record { wrote = rw (take_all i w h) at (wrote_then x y) }
+-- ---- pieces one behind the other
 
-pub wrote_length : {t o o' : List ℕ} {at r : ℕ} → Wrote t o at o' r → length o' ≡ length o
-wrote_length {t} {o} {at = at} w = ap length w.stored ∙ length-sets o at t
+pub wrote_none : (p : Printer) → Wrote [] p p
+wrote_none p = record { same = refl; long = refl; holds = λ w h. rw append-nil h }
+
+pub wrote_then : {t u : List ℕ} {p q r : Printer} → Wrote t p q → Wrote u q r → Wrote (t ++ u) p r
+wrote_then {t} {u} a b = record { same = b.same ∙ a.same; long = b.long ∙ a.long; holds = λ w h. rw (append_assoc w t u) at (b.holds (w ++ t) (a.holds w h)) }
 
 -- ---- the whole
 
-sets_behind : (x : ℕ) (t o : List ℕ) (at : ℕ) → sets (x ∷ o) (suc at) t ≡ x ∷ sets o at t
-sets_behind x [] o at = refl
-sets_behind x (b ∷ t) o at = sets_behind x t (set o at b) (suc at)
+some_is : (r : Option ℕ) → is_some r ≡ true → r ≡ Some (unwrap_or r 0)
+some_is (Some k) e = refl
+some_is None e = clash (cc)
 
-sets_zeros : (t : List ℕ) (n : ℕ) → length t ≤ n → sets (zeros n) 0 t ≡ t ++ zeros (n - length t)
-sets_zeros [] n h = rw sub-zero refl
-sets_zeros (b ∷ t) zero h = absurd (omega arith)
-sets_zeros (b ∷ t) (suc n) h = rw suc-sub-suc (sets_behind b t (zeros n) 0 ∙ ap (λ (l : List ℕ). b ∷ l) (sets_zeros t n (omega arith)))
+none_is : (r : Option ℕ) → is_some r ≡ false → r ≡ None
+none_is (Some k) e = clash (cc)
+none_is None e = refl
 
--- the whole text t over n zeros: it fits where the next piece would begin inside, and not where that would begin behind the end
-module _ (t : List ℕ) (n : ℕ) {b o : List ℕ} {r : ℕ} (z : b ≡ zeros n) (w : Wrote t b 0 o r) where
-  zeroed : length b ≡ n
+-- a text t printed over a buffer of n zeros
+module _ (t : List ℕ) (n : ℕ) {p q : Printer} (z : p.out.now ≡ zeros n) (i : p.len ≡ Some 0) (w : Wrote t p q) where
+  zeroed : length p.out.now ≡ n
   zeroed = ap length z ∙ length-replicate {A = ℕ} n 0
 
-  ended : (length o ≡ n) × (r ≡ min (length t) (n + 1))
-  ended = (wrote_length w ∙ zeroed, omega (arith, w.reached, zeroed))
+  long : length q.out.now ≡ n
+  long = w.long ∙ zeroed
 
-  pub printed_whole : r ≤ length o → (o ≡ printed_in t n) × (Whole r ≡ printed_by t n)
-  unfolding printed_in printed_by
-  printed_whole h =
-      let e = ended in
-      let f : length t ≤ n = omega (arith, e.0, e.1) in
-      let same : r ≡ length t = omega (arith, e.1) in
-      rw (le-leb (length t) n f) (w.stored ∙ ap (λ (l : List ℕ). sets l 0 t) z ∙ sets_zeros t n f, ap Whole same)
+  whole : Holds t q
+  whole =
+      let rest : n ≡ length p.out.now - 0 = omega (arith, zeroed) in
+      w.holds [] (holds_whole (omega arith) i (z ∙ ap zeros rest))
 
-  pub printed_cut : {o' : List ℕ} → length o < r → o' ≡ zeros (length o) → (o' ≡ printed_in t n) × (Cut ≡ printed_by t n)
-  unfolding printed_in printed_by
-  printed_cut h c = let e = ended in rw (lt-leb (length t) n (omega (arith, e.0, e.1))) (c ∙ ap zeros e.0, refl)
+  pub printed_answer : q.len ≡ printed_by t n
+  printed_answer = rw long at whole.told
+
+  -- where the printer tells a length, what its buffer holds
+  pub printed_text : {o : List ℕ} → is_some q.len ≡ true → o ≡ q.out.now → o ≡ printed_in t n
+  unfolding printed_in
+  printed_text j e =
+      let f = fitting whole (some_is q.len j) in
+      rw (le-leb (length t) n (omega (arith, f.1, long))) (e ∙ whole.there f.1 ∙ rw long refl)
+
+  -- where it tells none, the buffer cleared
+  pub printed_cut : {o : List ℕ} → is_some q.len ≡ false → length o ≡ n → o ≡ zeros (length o) → o ≡ printed_in t n
+  unfolding printed_in
+  printed_cut j l c = rw (lt-leb (length t) n (told-cut t n printed_answer (none_is q.len j))) (c ∙ ap zeros l)

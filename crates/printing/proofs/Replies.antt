@@ -6,7 +6,7 @@ use Rattle.rules.specs.declared.entry.Entry.{Entry}
 use Rattle.rules.specs.declared.refusal.Refusal.{Refusal}
 use Rattle.rules.specs.declared.stop.Ending.{Ending}
 use Rattle.rules.specs.Paper.{refusal_on_paper}
-use Rattle.rules.specs.Place.{ending_on_paper, Follow, next, halt, wrong, opening}
+use Rattle.rules.specs.Place.{ending_on_paper, Follow, next, opening}
 use Rattle.rules.specs.Walk.{Trace, accepted, refused, unfinished, HeaderAt, onward, slices}
 use Rattle.laws.specs.Gather.{gathered}
 use Rattle.laws.specs.Walks.{finished}
@@ -27,8 +27,7 @@ slices_end k s = go (opening k s)
   where
     go : (f : Follow) → onward s f ≡ unfinished → ⊥
     go (next p) e = finished s p e
-    go (halt x) e = clash (cc)
-    go (wrong r) e = clash (cc)
+    go f e = clash (cc)
 
 module _ (s : List ℕ) (k : Entry) (o : Outcome) (e : outcome_on_paper o ≡ (reply_of k s).ended) where
   ends : outcome_on_paper o ≡ ended_by (slices k s)
@@ -41,8 +40,7 @@ module _ (s : List ℕ) (k : Entry) (o : Outcome) (e : outcome_on_paper o ≡ (r
     where
       go : (t : Trace HeaderAt) → whole (ending_on_paper x) ≡ ended_by t → Accepts t
       go (accepted hs y) f = accepts
-      go (refused hs r) f = clash (cc)
-      go unfinished f = clash (cc)
+      go t f = clash (cc)
 
   pub reply_refuses : {q : Refusal} → o ≡ O.Refused q → refused_line (refusal_on_paper q) ≡ text_of k s
   unfolding gathered text

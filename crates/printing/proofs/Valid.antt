@@ -10,7 +10,7 @@ use borrow.Author.Tests.{ltb-true, le-leb}
 use Rattle.rules.specs.declared.entry.Entry.{Entry}
 use Rattle.rules.specs.declared.entry.Entry.TheVariants as E
 use Rattle.rules.specs.declared.kind.Kind.{Kind}
-use Rattle.rules.specs.declared.kind.Kind.TheVariants.{Ethernet2, Vlan, Ipv4, Ipv6, HopByHop, Routing, Destination, Fragment, Auth, Udp, Tcp}
+use Rattle.rules.specs.declared.kind.Kind.TheVariants.{Ethernet2, Vlan, Ipv4, Ipv6, Auth, Udp, Tcp}
 use Rattle.rules.specs.declared.place.Place.{Place}
 use Rattle.rules.specs.declared.place.Room.{Room}
 use Rattle.rules.specs.declared.turn.ChainPlace.{ChainPlace}
@@ -32,15 +32,7 @@ use Rattle.printing.specs.Clash.{clash}
 abbrev BeforeIp : Kind → ℕ → Type 0
 BeforeIp Ethernet2 n = n ≡ 0
 BeforeIp Vlan n = n ≡ 0
-BeforeIp Ipv4 n = Unit
-BeforeIp Ipv6 n = Unit
-BeforeIp HopByHop n = Unit
-BeforeIp Routing n = Unit
-BeforeIp Destination n = Unit
-BeforeIp Fragment n = Unit
-BeforeIp Auth n = Unit
-BeforeIp Udp n = Unit
-BeforeIp Tcp n = Unit
+BeforeIp k n = Unit
 
 pub record Valid (s : List ℕ) (p : Place) : Type 0 where
   pub room_in : p.room.end ≤ length s
@@ -113,13 +105,10 @@ module _ (p : Room) (tags : p.tags ≤ N.tag_limit) where
     turn_few Vlan g z = link_few (number 2 g 2) z
     turn_few Ipv4 g z = pick_few (eqb (g 9) N.auth_number) (opens tags ips tt) (transport_few (g 9))
     turn_few Ipv6 g z = chain6_few Directly (g 6)
-    turn_few HopByHop g z = chain6_few Later (g 0)
-    turn_few Routing g z = chain6_few Later (g 0)
-    turn_few Destination g z = chain6_few Later (g 0)
-    turn_few Fragment g z = chain6_few Later (g 0)
     turn_few Auth g z = pick_few (eqb p.version 4) (transport_few (g 0)) (chain6_few Later (g 0))
     turn_few Udp g z = stopping
     turn_few Tcp g z = stopping
+    turn_few k g z = chain6_few Later (g 0)
 
 -- ---- the next place
 
@@ -130,8 +119,7 @@ record Opened (p : Room) (k : Kind) : Type 0 where
 
 opened : {p : Room} {t : Turn} {k : Kind} → Few p t → t ≡ Opens k → Opened p k
 opened {p} {k = k} (opens {k = j} a b c) e = let z : j ≡ k = cc in subst (Opened p) z (record { tags = a; ips = b; before = c })
-opened stopping e = clash (cc)
-opened refusing e = clash (cc)
+opened f e = clash (cc)
 
 -- the room that a header leaves has the same tags and IP headers
 record Kept (q p : Room) : Type 0 where

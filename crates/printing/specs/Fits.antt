@@ -1,6 +1,6 @@
 -- The text of every frame of at most `frame_limit` bytes fits a buffer of `text_limit` bytes.
 use Prim.Native.Nat.{ℕ, zero, suc, ◌+◌, ◌-◌, ◌*◌, ◌≤◌}
-use Rattle.std.specs.Prelude.{◌≡◌, List, ◌++◌}
+use Rattle.std.specs.Prelude.{◌≡◌, ℕ, List, ◌++◌, Option, None}
 use Rattle.std.proofs.Math.Path.{refl, ap}
 use Rattle.std.proofs.Common.{append_assoc, length-append}
 use native.Mathlib.Omega.{arith}
@@ -16,8 +16,6 @@ use Rattle.laws.specs.Reads.{goes, parts}
 use Rattle.laws.specs.Openings.{opening_begins, never_halts}
 use Rattle.printing.specs.Clash.{clash}
 use Rattle.printing.specs.Text.{line_of, header_lines, ending_lines, text, text_of}
-use Rattle.printing.specs.declared.Printed.{Printed}
-use Rattle.printing.specs.declared.Printed.TheVariants.{Cut}
 use Rattle.printing.specs.Put.{printed_by}
 use Rattle.printing.specs.Told.{told-cut}
 use Rattle.printing.specs.Sizes.{SmallRow, ending-short, refused_short}
@@ -67,8 +65,7 @@ module _ (s : List ℕ) (b : Bytes (byte_at s)) where
 opening-small : (e : Entry) (s : List ℕ) {r : Row} → opening e s ≡ wrong r → SmallRow r
 unfolding opening
 opening-small E.Ethernet s q = clash (cc)
-opening-small E.Ipv4 s q = clash (cc)
-opening-small E.Ipv6 s q = clash (cc)
+opening-small e s q = clash (cc)
 
 -- 262,211
 abbrev pub text_limit : ℕ
@@ -88,8 +85,8 @@ text-fits e s b h = go (opening e s) refl
     go (wrong r) q = let z = refused_short (opening-small e s q) in omega (arith, z)
 
 -- so `print` never tells that the text of such a frame is cut, where the buffer has n bytes
-pub never_cut : (e : Entry) (s : List ℕ) (n : ℕ) {r : Printed} → Bytes (byte_at s) → length s ≤ frame_limit → n ≡ text_limit
-    → r ≡ printed_by (text_of e s) n → r ≡ Cut → ⊥
+pub never_cut : (e : Entry) (s : List ℕ) (n : ℕ) {r : Option ℕ} → Bytes (byte_at s) → length s ≤ frame_limit → n ≡ text_limit
+    → r ≡ printed_by (text_of e s) n → r ≡ None → ⊥
 never_cut e s n b h l q i =
     let z = told-cut (text_of e s) n q i in
     let y = text-fits e s b h in

@@ -42,6 +42,11 @@ line [] = newline ∷ []
 line (w ∷ []) = w ++ (newline ∷ [])
 line (w ∷ v ∷ ws) = w ++ (space ∷ line (v ∷ ws))
 
+-- what follows the first word of a line
+abbrev pub rest_of_line : List (List ℕ) → List ℕ
+rest_of_line [] = newline ∷ []
+rest_of_line (w ∷ ws) = space ∷ line (w ∷ ws)
+
 -- ---- names
 
 -- by the paper's numbers of header kinds and layers: "header names .. ethernet2, vlan, ipv4, ipv6, hop-by-hop, routing, destination,
@@ -108,6 +113,10 @@ carried n values =
 unfoldable pub refused_line : Row → List ℕ
 refused_line r =
     line (ascii "refused" ∷ decimal r.number ∷ name_of r.layer ∷ decimal r.offset ∷ carried r.number r.values)
+
+-- what follows the offset there
+abbrev pub rest_of_refused : Row → List ℕ
+rest_of_refused r = rest_of_line (carried r.number r.values)
 
 -- ---- the whole text
 

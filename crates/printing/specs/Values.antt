@@ -4,7 +4,7 @@ use Rattle.std.proofs.Math.Path.{refl, subst}
 use Rattle.std.proofs.Common.{sym, arith, length-take, get_or-take, get_or-drop, ltb-true, ltb-false}
 use Rattle.std.proofs.Math.ListN.{get_or-eq_default}
 use Rattle.rules.specs.declared.kind.Kind.{Kind}
-use Rattle.rules.specs.declared.kind.Kind.TheVariants.{Ethernet2, Vlan, Ipv4, Ipv6, HopByHop, Routing, Destination, Fragment, Auth, Udp, Tcp}
+use Rattle.rules.specs.declared.kind.Kind.TheVariants.{Vlan, Ipv4, Ipv6, HopByHop, Udp, Tcp}
 use Rattle.rules.specs.declared.kind.Layer.TheVariants.{Of}
 use Rattle.rules.specs.declared.kind.RoomSource.{RoomSource}
 use Rattle.rules.specs.declared.place.Number.{Number}
@@ -89,26 +89,17 @@ two g i h = omega (arith, h (i + 0), h (i + 1))
 
 tests-small : (k : Kind) (v : ℕ) (g : ℕ → ℕ) (have : ℕ) → Bytes g → have ≤ frame_limit → AllSmall (tests k v g have)
 unfolding tests_by
-tests-small Ethernet2 v g have b h = omega arith
-tests-small Vlan v g have b h = omega arith
 tests-small Ipv4 v g have b h = omega (arith, b 0, two g 2 b)
 tests-small Ipv6 v g have b h = omega (arith, b 0, two g 4 b)
-tests-small HopByHop v g have b h = omega (arith, b 1)
-tests-small Routing v g have b h = omega (arith, b 1)
-tests-small Destination v g have b h = omega (arith, b 1)
-tests-small Fragment v g have b h = omega arith
-tests-small Auth v g have b h = omega (arith, b 1)
 tests-small Udp v g have b h = omega (arith, field_small (eqb (number 2 g 4) 0) h (two g 4 b))
 tests-small Tcp v g have b h = omega (arith, b 12)
+tests-small k v g have b h = omega (arith, b 1)
 
 -- ---- what follows a header
 
 stop_small : (w : Stop) → stop_number w < 10
 stop_small S.EtherTypeNotOpened = omega arith
-stop_small S.TagsFull = omega arith
-stop_small S.Fragment = omega arith
-stop_small S.IpNumberNotOpened = omega arith
-stop_small S.TransportRead = omega arith
+stop_small w = omega arith
 
 abbrev pub SmallFollow : Follow → Type 0
 SmallFollow (next q) = Unit
@@ -123,17 +114,8 @@ follow-small LateHopByHop p n to a b = placed-small (other hop_by_hop_not_at_sta
 
 payload_small : (k : Kind) (g : ℕ → ℕ) (at : ℕ) (p : Room) → Bytes g → p.end ≤ frame_limit → payload_of k g at p - (at + length_of k g) ≤ frame_limit
 unfolding payload_of length_of
-payload_small Ethernet2 g at p b h = omega arith
-payload_small Vlan g at p b h = omega arith
-payload_small Ipv4 g at p b h = omega arith
-payload_small Ipv6 g at p b h = omega arith
-payload_small HopByHop g at p b h = omega arith
-payload_small Routing g at p b h = omega arith
-payload_small Destination g at p b h = omega arith
-payload_small Fragment g at p b h = omega arith
-payload_small Auth g at p b h = omega arith
 payload_small Udp g at p b h = omega (arith, field_small (eqb (number 2 g 4) 0) {have = p.end - at} (omega arith) (two g 4 b))
-payload_small Tcp g at p b h = omega arith
+payload_small k g at p b h = omega arith
 
 -- ---- one header read, in a room that ends within a frame's limit
 
@@ -141,17 +123,8 @@ payload_small Tcp g at p b h = omega arith
 line_by : (k : Kind) (g : ℕ → ℕ) {at have : ℕ} → Small at → Small (length_of k g) → Sized k g have
     → length (header_line (kind_number k) at (length_of k g)) ≤ 4 * length_of k g
 unfolding length_of
-line_by Ethernet2 g a l z = let y = header-short 1 a l in omega (arith, y, z.long)
 line_by Vlan g a l z = let y = tag-short a in omega (arith, y)
-line_by Ipv4 g a l z = let y = header-short 3 a l in omega (arith, y, z.long)
-line_by Ipv6 g a l z = let y = header-short 4 a l in omega (arith, y, z.long)
-line_by HopByHop g a l z = let y = header-short 5 a l in omega (arith, y, z.long)
-line_by Routing g a l z = let y = header-short 6 a l in omega (arith, y, z.long)
-line_by Destination g a l z = let y = header-short 7 a l in omega (arith, y, z.long)
-line_by Fragment g a l z = let y = header-short 8 a l in omega (arith, y, z.long)
-line_by Auth g a l z = let y = header-short 9 a l in omega (arith, y, z.long)
-line_by Udp g a l z = let y = header-short 10 a l in omega (arith, y, z.long)
-line_by Tcp g a l z = let y = header-short 11 a l in omega (arith, y, z.long)
+line_by k g a l z = let y = header-short (kind_number k) a l in omega (arith, y, z.long)
 
 -- a whole header at p: its line, its length, and what follows
 pub record SmallFound (p : Place) (x : Found) : Type 0 where

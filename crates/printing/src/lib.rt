@@ -7,52 +7,37 @@ ghost use Rattle.slicer.specs.Reply.{outcome_on_paper, reply_of};
 ghost use Rattle.printing.specs.Text.{text_of, Accepts};
 ghost use Rattle.printing.specs.Put.{Wrote, printed_in, printed_by};
 
-use line::{ending_lines, header_line, refused_line};
 use rules::Entry;
 use slicer::{Outcome, slice};
 use steps::{Step, first, next};
-use write::clear;
+use write::Printer;
 
 mod line;
+mod name;
 mod write;
 
-// `Whole`: the buffer's first so many bytes are the whole text. `Cut`: the text does not fit the buffer.
-#[derive(Clone, Copy)]
-pub enum Printed {
-    Whole(usize),
-    Cut,
-}
-
 // The text of an accepted frame: a line for each header, from place to place, and the lines of the ending.
-fn accepted_lines(out: &mut [u8], s: &[u8], entry: Entry) -> usize
+fn accepted_lines(printer: &mut Printer, s: &[u8], entry: Entry)
     requires { Accepts (slices entry s.now) }
-    ensures { Wrote (text_of entry s.now) out.old 0 out.new result }
+    ensures { Wrote (text_of entry s.now) printer.old printer.new }
 {
-    let mut at: usize = 0;
     let mut place = first(s, entry);
     loop {
-        let step = next(s, place);
-        let kind = place.kind;
-        let number = kind.number();
-        match step {
+        match next(s, place) {
             Step::Next {
                 len,
                 place: following,
             } => {
-                at = header_line(out, at, number, place.at, len);
+                printer.header_line(place.kind, place.at, len);
                 place = following;
             }
             Step::Last { len, ending } => {
-                let past = header_line(out, at, number, place.at, len);
-                return ending_lines(out, past, ending);
+                printer.header_line(place.kind, place.at, len);
+                return printer.ending_lines(ending);
             }
             // An accepted frame has neither of these.
-            Step::Refused(_) => {
-                return at;
-            }
-            Step::NotAPlace => {
-                return at;
-            }
+            Step::Refused(_) => return,
+            Step::NotAPlace => return,
         }
     }
 }
@@ -65,30 +50,30 @@ fn outcome(s: &[u8], entry: Entry) -> Outcome
     reply.outcome
 }
 
-// Writes the text of a frame over the begin of `out`. Where `out` ends before the text, the answer is one more than its length.
 // A refused frame prints its refusal alone, so the frame is sliced before any header is printed.
-fn lines(s: &[u8], entry: Entry, out: &mut [u8]) -> usize
-    ensures { Wrote (text_of entry s.now) out.old 0 out.new result }
+fn lines(printer: &mut Printer, s: &[u8], entry: Entry)
+    ensures { Wrote (text_of entry s.now) printer.old printer.new }
 {
-    let ended = outcome(s, entry);
-    match ended {
-        Outcome::Accepted(_) => accepted_lines(out, s, entry),
-        Outcome::Refused(refusal) => refused_line(out, 0, refusal),
+    match outcome(s, entry) {
+        Outcome::Accepted(_) => accepted_lines(printer, s, entry),
+        Outcome::Refused(refusal) => printer.refused_line(refusal),
     }
 }
 
+// The buffer's first so many bytes are the whole text, or it does not fit the buffer.
 // A cut text reads as a whole one, and so does a short text in front of the rest of an earlier, longer one. So `out` is cleared
 // before the text is written, and again where the text does not fit.
-pub fn print(s: &[u8], entry: Entry, out: &mut [u8]) -> Printed
+pub fn print(s: &[u8], entry: Entry, out: &mut [u8]) -> Option<usize>
     ensures text { out.new ≡ printed_in (text_of entry s.now) (length out.old) }
     ensures answer { result ≡ printed_by (text_of entry s.now) (length out.old) }
     ensures unwritten { s.exit.now ≡ s.entry.now }
 {
-    clear(out);
-    let past = lines(s, entry, out);
-    if out.len() < past {
-        clear(out);
-        return Printed::Cut;
+    out.fill(0);
+    let mut printer = Printer { out, len: Some(0) };
+    lines(&mut printer, s, entry);
+    let len = printer.len;
+    if len.is_none() {
+        out.fill(0);
     }
-    Printed::Whole(past)
+    len
 }

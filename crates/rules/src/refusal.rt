@@ -1,5 +1,6 @@
 // A failed test: as a reader tells it, which knows no offset; and as a frame's refusal, with its place.
 ghost use Rattle.std.specs.Prelude.{◌≡◌};
+ghost use Rattle.rules.specs.Named.{layer_number};
 ghost use Rattle.rules.specs.Paper.{fault_on_paper, refusal_on_paper};
 ghost use Rattle.rules.specs.Test.{bound_by, placed};
 
@@ -124,56 +125,73 @@ pub struct Row {
     pub values: [usize; 3],
 }
 
+impl Refusal {
+    // The layer whose test failed.
+    pub fn layer(self) -> Layer
+        ensures { layer_number result ≡ (refusal_on_paper self).layer }
+    {
+        match self {
+            Refusal::TooShort { layer, .. } => layer,
+            Refusal::Ipv4Version { .. } | Refusal::SmallIhl { .. } => Layer::Of(Kind::Ipv4),
+            Refusal::Ipv6Version { .. } => Layer::Of(Kind::Ipv6),
+            Refusal::HopByHopNotAtStart { .. } => Layer::Of(Kind::HopByHop),
+            Refusal::ZeroAuthLength { .. } => Layer::Of(Kind::Auth),
+            Refusal::SmallDataOffset { .. } => Layer::Of(Kind::Tcp),
+        }
+    }
+}
+
 impl From<Refusal> for Row {
     ghost from_gives = { λ refusal row. row ≡ refusal_on_paper refusal };
 
     fn from(refusal: Refusal) -> Row {
+        let layer = refusal.layer().number();
         match refusal {
             Refusal::TooShort {
                 offset,
                 required,
                 have,
-                layer,
                 source,
+                ..
             } => Row {
                 number: 1,
-                layer: layer.number(),
+                layer,
                 offset,
                 values: [required, have, source.number()],
             },
             Refusal::Ipv4Version { offset, version } => Row {
                 number: 2,
-                layer: Kind::Ipv4.number(),
+                layer,
                 offset,
                 values: [version, 0, 0],
             },
             Refusal::SmallIhl { offset, ihl } => Row {
                 number: 3,
-                layer: Kind::Ipv4.number(),
+                layer,
                 offset,
                 values: [ihl, 0, 0],
             },
             Refusal::Ipv6Version { offset, version } => Row {
                 number: 4,
-                layer: Kind::Ipv6.number(),
+                layer,
                 offset,
                 values: [version, 0, 0],
             },
             Refusal::HopByHopNotAtStart { offset } => Row {
                 number: 5,
-                layer: Kind::HopByHop.number(),
+                layer,
                 offset,
                 values: [0, 0, 0],
             },
             Refusal::ZeroAuthLength { offset } => Row {
                 number: 6,
-                layer: Kind::Auth.number(),
+                layer,
                 offset,
                 values: [0, 0, 0],
             },
             Refusal::SmallDataOffset { offset, value } => Row {
                 number: 7,
-                layer: Kind::Tcp.number(),
+                layer,
                 offset,
                 values: [value, 0, 0],
             },

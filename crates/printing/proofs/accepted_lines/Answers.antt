@@ -1,5 +1,5 @@
 -- `accepted_lines` meets its contract. Assumes nothing.
-use Rattle.printing.proofs.Telling.{telling_first, telling_all, telling_less, telling_on, telling_last, telling_refused, telling_no_place}
+use Rattle.printing.proofs.Telling.{telling_first, telling_less, telling_on, telling_last, telling_refused, telling_no_place}
 use Rattle.steps.specs.Places.{opens-there}
 use Rattle.printing.proofs.accepted_lines.Goals as goal
 
@@ -9,21 +9,20 @@ loop-len-init c =
 
 pub loop-len-smaller : goal.loop-len-smaller
 loop-len-smaller c =
-    telling_less c.loop-len.invariant _ c.next-step.ensures.answer c.in-Next.is
+    telling_less c.loop-len.invariant _ c.next.ensures.answer c.in-Next.is
 
 pub loop-len-preserved : goal.loop-len-preserved
 loop-len-preserved c =
-    telling_on c.loop-len.invariant _ c.next-step.ensures.answer c.in-Next.is c.number-number.ensures c.header_line-at.ensures
+    telling_on c.loop-len.invariant _ c.next.ensures.answer c.in-Next.is c.header_line.ensures
 
 pub returns-in-Last : goal.returns-in-Last
 returns-in-Last c =
-    telling_all _ _ (opens-there _ c.first-place.ensures.answer)
-    (telling_last c.loop-len.invariant _ c.next-step.ensures.answer c.in-Last.is c.number-number.ensures c.header_line-past.ensures c.ending_lines.ensures)
+    telling_last c.loop-len.invariant _ c.next.ensures.answer c.in-Last.is c.header_line-in-Last.ensures c.ending_lines.ensures
 
 pub returns-in-Refused : goal.returns-in-Refused
 returns-in-Refused c =
-    absurd (telling_refused c.loop-len.invariant _ c.next-step.ensures.answer c.in-Refused.is)
+    absurd (telling_refused c.loop-len.invariant _ c.next.ensures.answer c.in-Refused.is)
 
 pub returns-in-NotAPlace : goal.returns-in-NotAPlace
 returns-in-NotAPlace c =
-    absurd (telling_no_place c.loop-len.invariant _ c.next-step.ensures.answer c.in-NotAPlace.is)
+    absurd (telling_no_place c.loop-len.invariant _ c.next.ensures.answer c.in-NotAPlace.is)

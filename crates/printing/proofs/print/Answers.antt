@@ -1,23 +1,23 @@
 -- `print` meets its contract. Assumes nothing.
-use Rattle.printing.proofs.Pieces.{printed_whole, printed_cut}
+use mathlib.Core.Path.{refl, sym, ap, ◌∙◌}
+use native.Mathlib.Omega.{arith}
+use Rattle.std.proofs.Common.{rules}
+use Rattle.laws.specs.Zeros.{zeros}
+use Rattle.printing.proofs.Pieces.{printed_answer, printed_text, printed_cut}
 use Rattle.printing.proofs.print.Goals as goal
 
-pub returns-then-out-past-clause-text : goal.returns-then-out-past-clause-text
-returns-then-out-past-clause-text c =
-    let z = printed_cut _ _ c.clear.ensures c.lines-past.ensures c.if-out-past.true c.clear-then-out-past.ensures in
-    z.0
+pub returns-then-is_none-clause-text : goal.returns-then-is_none-clause-text
+returns-then-is_none-clause-text c =
+    let f = c.fill-then-is_none.ensures in
+    printed_cut _ _ (c.fill.ensures.after (λ y h. h)) refl c.lines.ensures c.if-is_none.ensures (omega (arith, f.len, c.fill.ensures.len)) (f.after (λ y h. h) ∙ ap zeros (sym f.len))
 
-pub returns-then-out-past-clause-answer : goal.returns-then-out-past-clause-answer
-returns-then-out-past-clause-answer c =
-    let z = printed_cut _ _ c.clear.ensures c.lines-past.ensures c.if-out-past.true c.clear-then-out-past.ensures in
-    z.1
+pub returns-then-is_none-clause-answer : goal.returns-then-is_none-clause-answer
+returns-then-is_none-clause-answer c = printed_answer _ _ (c.fill.ensures.after (λ y h. h)) refl c.lines.ensures
 
-pub returns-clause-text : goal.returns-clause-text
-returns-clause-text c =
-    let z = printed_whole _ _ c.clear.ensures c.lines-past.ensures c.if-out-past.false in
-    z.0
+pub returns-else-is_none-clause-text : goal.returns-else-is_none-clause-text
+returns-else-is_none-clause-text c =
+    let same = sym c.lines.ensures.same in
+    printed_text _ _ (c.fill.ensures.after (λ y h. h)) refl c.lines.ensures c.if-is_none.ensures (search rules)
 
-pub returns-clause-answer : goal.returns-clause-answer
-returns-clause-answer c =
-    let z = printed_whole _ _ c.clear.ensures c.lines-past.ensures c.if-out-past.false in
-    z.1
+pub returns-else-is_none-clause-answer : goal.returns-else-is_none-clause-answer
+returns-else-is_none-clause-answer c = printed_answer _ _ (c.fill.ensures.after (λ y h. h)) refl c.lines.ensures
