@@ -10,8 +10,7 @@ use Rattle.rules.specs.Place.{ending_on_paper, Follow, next, opening}
 use Rattle.rules.specs.Walk.{Trace, accepted, refused, unfinished, HeaderAt, onward, slices}
 use Rattle.laws.specs.Gather.{gathered}
 use Rattle.laws.specs.Walks.{finished}
-use Rattle.slicer.specs.declared.packet.Outcome.{Outcome}
-use Rattle.slicer.specs.declared.packet.Outcome.TheVariants as O
+use Rattle.std.specs.Prelude.{Result, Ok, Err}
 use Rattle.slicer.specs.Reply.{Ended, accepted as whole, refused as shut, nothing, slice_way, reply_of, outcome_on_paper}
 use Rattle.printing.specs.Clash.{clash}
 use Rattle.printing.specs.Text.{refused_line, text, text_of, Accepts, accepts}
@@ -29,12 +28,12 @@ slices_end k s = go (opening k s)
     go (next p) e = finished s p e
     go f e = clash (cc)
 
-module _ (s : List ℕ) (k : Entry) (o : Outcome) (e : outcome_on_paper o ≡ (reply_of k s).ended) where
+module _ (s : List ℕ) (k : Entry) (o : Result Ending Refusal) (e : outcome_on_paper o ≡ (reply_of k s).ended) where
   ends : outcome_on_paper o ≡ ended_by (slices k s)
   unfolding reply_of
   ends = e
 
-  pub reply_accepts : {x : Ending} → o ≡ O.Accepted x → Accepts (slices k s)
+  pub reply_accepts : {x : Ending} → o ≡ Ok x → Accepts (slices k s)
   unfolding gathered
   reply_accepts {x} i = go (slices k s) (sym (ap outcome_on_paper i) ∙ ends)
     where
@@ -42,7 +41,7 @@ module _ (s : List ℕ) (k : Entry) (o : Outcome) (e : outcome_on_paper o ≡ (r
       go (accepted hs y) f = accepts
       go t f = clash (cc)
 
-  pub reply_refuses : {q : Refusal} → o ≡ O.Refused q → refused_line (refusal_on_paper q) ≡ text_of k s
+  pub reply_refuses : {q : Refusal} → o ≡ Err q → refused_line (refusal_on_paper q) ≡ text_of k s
   unfolding gathered text
   reply_refuses {q} i = go (slices k s) (slices_end k s) (sym (ap outcome_on_paper i) ∙ ends)
     where

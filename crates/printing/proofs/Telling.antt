@@ -15,6 +15,9 @@ use Rattle.laws.specs.Reads.{goes}
 use Rattle.laws.specs.Walks.{trace-step}
 use Rattle.steps.specs.declared.place.Step.{Step}
 use Rattle.steps.specs.declared.place.Step.TheVariants as S
+use Rattle.steps.specs.declared.place.NoStep.{NoStep}
+use Rattle.steps.specs.declared.place.NoStep.TheVariants as NS
+use Rattle.std.specs.Prelude.{Result, Ok, Err}
 use Rattle.steps.specs.Places.{on, last, refused as shut, not_a_place, place_on_paper, step_on_paper, leads, steps, step_says, same_place}
 use Rattle.printing.specs.declared.write.Printer.{Printer}
 use Rattle.printing.specs.Clash.{clash}
@@ -77,7 +80,7 @@ module _ (s : List ℕ) (e : Entry) {p₀ : Place} (q : next p₀ ≡ opening e 
   pub telling_first : (o : Printer) → Accepts (slices e s) → Telling s (text_of e s) o p₀ o
   telling_first o a = record { valid = valid_first e s q; accepts = rw begun at a; done = []; wrote = wrote_none o; left = sym (ap text begun) }
 
-module _ {s wanted : List ℕ} {p : Place} {first now : Printer} (t : Telling s wanted first p now) (step : Step) (e : step_on_paper step ≡ step_says s p) where
+module _ {s wanted : List ℕ} {p : Place} {first now : Printer} (t : Telling s wanted first p now) (step : Result Step NoStep) (e : step_on_paper step ≡ step_says s p) where
   told : steps (read s p) ≡ step_on_paper step
   told = sym (e ∙ says t.valid)
 
@@ -94,7 +97,7 @@ module _ {s wanted : List ℕ} {p : Place} {first now : Printer} (t : Telling s 
         let z : text (trace s p) ≡ header_line (kind_number p.kind) p.at len ++ text (onward s f) = ap text walked ∙ first_behind.lines ∙ rw x.long refl in
         append_assoc t.done _ _ ∙ sym (ap (λ (l : List ℕ). t.done ++ l) z) ∙ t.left
 
-  module _ {len : ℕ} {q : Place} (i : step ≡ S.Next len q) where
+  module _ {len : ℕ} {q : Place} (i : step ≡ Ok (S.Next len q)) where
     further : Onward (read s p) len (next q)
     further = onward_next (read s p) (told ∙ ap step_on_paper i)
 
@@ -115,7 +118,7 @@ module _ {s wanted : List ℕ} {p : Place} {first now : Printer} (t : Telling s 
           left = line_left f;
         }
 
-  module _ {len : ℕ} {y : Ending} {o₁ o₂ : Printer} (i : step ≡ S.Last len y) where
+  module _ {len : ℕ} {y : Ending} {o₁ o₂ : Printer} (i : step ≡ Ok (S.Last len y)) where
     pub telling_last : Wrote (header_line (kind_number p.kind) p.at len) now o₁ → Wrote (ending_lines (ending_on_paper y)) o₁ o₂ → Wrote wanted first o₂
     unfolding text header_lines
     telling_last w v =
@@ -123,7 +126,7 @@ module _ {s wanted : List ℕ} {p : Place} {first now : Printer} (t : Telling s 
         rw (line_left f) at (wrote_then (wrote_then t.wrote w) v)
 
   -- an accepted frame's walk meets neither a refusal nor a place that is none
-  pub telling_refused : {r : Refusal} → step ≡ S.Refused r → ⊥
+  telling_refused : {r : Refusal} → step ≡ Err (NS.Refused r) → ⊥
   telling_refused i = go (read s p) (told ∙ ap step_on_paper i) (rw (trace-step s p) at t.accepts)
     where
       go : (d : PlaceRead) → {r : Row} → steps d ≡ shut r → Accepts (taken p d (trace s)) → ⊥
@@ -134,7 +137,7 @@ module _ {s wanted : List ℕ} {p : Place} {first now : Printer} (t : Telling s 
           on_follow (wrong w) k a = elim a [ ]
           on_follow f k a = clash (cc)
 
-  pub telling_no_place : step ≡ S.NotAPlace → ⊥
+  telling_no_place : step ≡ Err NS.NotAPlace → ⊥
   telling_no_place i = go (read s p) (told ∙ ap step_on_paper i)
     where
       go : (d : PlaceRead) → steps d ≡ not_a_place → ⊥
@@ -144,3 +147,7 @@ module _ {s wanted : List ℕ} {p : Place} {first now : Printer} (t : Telling s 
           on_follow : (f : Follow) → leads x.len f ≡ not_a_place → ⊥
           on_follow (next q) k = clash (cc)
           on_follow f k = clash (cc)
+
+  pub telling_no_step : (n : NoStep) → step ≡ Err n → ⊥
+  telling_no_step (NS.Refused r) i = telling_refused i
+  telling_no_step NS.NotAPlace i = telling_no_place i

@@ -7,8 +7,8 @@ ghost use Rattle.slicer.specs.Reply.{outcome_on_paper, reply_of};
 ghost use Rattle.printing.specs.Text.{text_of, Accepts};
 ghost use Rattle.printing.specs.Put.{Wrote, printed_in, printed_by};
 
-use rules::Entry;
-use slicer::{Outcome, slice};
+use rules::{Ending, Entry, Refusal};
+use slicer::slice;
 use steps::{Step, first, next};
 use write::Printer;
 
@@ -24,30 +24,30 @@ fn accepted_lines(printer: &mut Printer, s: &[u8], entry: Entry)
     let mut place = first(s, entry);
     loop {
         match next(s, place) {
-            Step::Next {
-                len,
-                place: following,
-            } => {
+            Ok(
+                Step::Next {
+                    len,
+                    place: following,
+                },
+            ) => {
                 printer.header_line(place.kind, place.at, len);
                 place = following;
             }
-            Step::Last { len, ending } => {
+            Ok(Step::Last { len, ending }) => {
                 printer.header_line(place.kind, place.at, len);
                 return printer.ending_lines(ending);
             }
-            // An accepted frame has neither of these.
-            Step::Refused(_) => return,
-            Step::NotAPlace => return,
+            // An accepted frame has a step from each of its places.
+            Err(_) => return,
         }
     }
 }
 
 // How the frame's reply ends. The rest of the reply, a large value, is left here.
-fn outcome(s: &[u8], entry: Entry) -> Outcome
+fn outcome(s: &[u8], entry: Entry) -> Result<Ending, Refusal>
     ensures { outcome_on_paper result ≡ (reply_of entry s.now).ended }
 {
-    let reply = slice(s, entry);
-    reply.outcome
+    slice(s, entry).map(|packet| packet.ending)
 }
 
 // A refused frame prints its refusal alone, so the frame is sliced before any header is printed.
@@ -55,8 +55,8 @@ fn lines(printer: &mut Printer, s: &[u8], entry: Entry)
     ensures { Wrote (text_of entry s.now) printer.old printer.new }
 {
     match outcome(s, entry) {
-        Outcome::Accepted(_) => accepted_lines(printer, s, entry),
-        Outcome::Refused(refusal) => printer.refused_line(refusal),
+        Ok(_) => accepted_lines(printer, s, entry),
+        Err(refusal) => printer.refused_line(refusal),
     }
 }
 

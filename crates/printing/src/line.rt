@@ -17,7 +17,7 @@ ghost use Rattle.printing.specs.Put.{Wrote};
 
 use crate::name::{kind_name, layer_name, source_name};
 use crate::write::Printer;
-use rules::{Ending, Kind, Refusal, Source};
+use rules::{Ending, Kind, Refusal, Row, Source};
 
 impl Printer<'_> {
     // A name, an offset and a length.
@@ -52,7 +52,7 @@ impl Printer<'_> {
     pub fn refused_line(&mut self, refusal: Refusal)
         ensures { Wrote (refused_line (refusal_on_paper refusal)) self.old self.new }
     {
-        let row = refusal.row();
+        let row = Row::from(refusal);
         self.text("refused ");
         self.number(row.number);
         self.text(" ");

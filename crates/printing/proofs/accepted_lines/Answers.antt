@@ -1,5 +1,7 @@
 -- `accepted_lines` meets its contract. Assumes nothing.
-use Rattle.printing.proofs.Telling.{telling_first, telling_less, telling_on, telling_last, telling_refused, telling_no_place}
+use Rattle.printing.proofs.Telling.{telling_first, telling_less, telling_on, telling_last, telling_no_step}
+use Rattle.std.specs.Prelude.{Ok}
+use Rattle.std.proofs.Common.{ap, ◌∙◌}
 use Rattle.steps.specs.Places.{opens-there}
 use Rattle.printing.proofs.accepted_lines.Goals as goal
 
@@ -9,20 +11,16 @@ loop-len-init c =
 
 pub loop-len-smaller : goal.loop-len-smaller
 loop-len-smaller c =
-    telling_less c.loop-len.invariant _ c.next.ensures.answer c.in-Next.is
+    telling_less c.loop-len.invariant _ c.next.ensures.answer (c.in-Ok-Next.is ∙ ap Ok c.in-Ok-Next.field-0-is)
 
 pub loop-len-preserved : goal.loop-len-preserved
 loop-len-preserved c =
-    telling_on c.loop-len.invariant _ c.next.ensures.answer c.in-Next.is c.header_line.ensures
+    telling_on c.loop-len.invariant _ c.next.ensures.answer (c.in-Ok-Next.is ∙ ap Ok c.in-Ok-Next.field-0-is) c.header_line.ensures
 
-pub returns-in-Last : goal.returns-in-Last
-returns-in-Last c =
-    telling_last c.loop-len.invariant _ c.next.ensures.answer c.in-Last.is c.header_line-in-Last.ensures c.ending_lines.ensures
+pub returns-in-Ok-Last : goal.returns-in-Ok-Last
+returns-in-Ok-Last c =
+    telling_last c.loop-len.invariant _ c.next.ensures.answer (c.in-Ok-Last.is ∙ ap Ok c.in-Ok-Last.field-0-is) c.header_line-in-Ok-Last.ensures c.ending_lines.ensures
 
-pub returns-in-Refused : goal.returns-in-Refused
-returns-in-Refused c =
-    absurd (telling_refused c.loop-len.invariant _ c.next.ensures.answer c.in-Refused.is)
-
-pub returns-in-NotAPlace : goal.returns-in-NotAPlace
-returns-in-NotAPlace c =
-    absurd (telling_no_place c.loop-len.invariant _ c.next.ensures.answer c.in-NotAPlace.is)
+pub returns-in-Err : goal.returns-in-Err
+returns-in-Err c =
+    absurd (telling_no_step c.loop-len.invariant _ c.next.ensures.answer _ c.in-Err.is)

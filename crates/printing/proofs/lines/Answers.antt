@@ -4,8 +4,8 @@ use Rattle.printing.proofs.lines.Goals as goal
 
 pub accepted_lines-requires : goal.accepted_lines-requires
 accepted_lines-requires c =
-    reply_accepts _ _ c.outcome.result c.outcome.ensures c.in-Accepted.is
+    reply_accepts _ _ c.outcome.result c.outcome.ensures c.in-Ok.is
 
-pub returns-in-Refused : goal.returns-in-Refused
-returns-in-Refused c =
-    rw (reply_refuses _ _ c.outcome.result c.outcome.ensures c.in-Refused.is) at c.refused_line.ensures
+pub returns-in-Err : goal.returns-in-Err
+returns-in-Err c =
+    rw (reply_refuses _ _ c.outcome.result c.outcome.ensures c.in-Err.is) at c.refused_line.ensures

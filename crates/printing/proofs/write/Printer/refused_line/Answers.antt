@@ -23,4 +23,4 @@ row_wrote r a b d e f g h =
 pub returns : goal.returns
 returns c =
     let named = rw (c.layer_name.ensures, c.layer.ensures) at c.text-3.ensures in
-    row_wrote _ c.text.ensures (rw c.row-row.ensures at c.number.ensures) c.text-2.ensures named c.text-4.ensures (rw c.row-row.ensures at c.number-2.ensures) c.carried.ensures
+    row_wrote _ c.text.ensures (rw c.from-row.ensures at c.number.ensures) c.text-2.ensures named c.text-4.ensures (rw c.from-row.ensures at c.number-2.ensures) c.carried.ensures
