@@ -1,6 +1,6 @@
 -- Demand 3 for the exports, by an entry's number: what a C or Rust program is handed is accepted, in order, counted and refused as the
 -- chain is; and a short-length refusal asks for more. That bytes past a declared length alter nothing: Alike.antt.
-use Rattle.std.specs.Prelude.{ℕ, ◌+◌, ◌≤◌, ◌<◌, ◌≡◌, refl, List, map, length}
+use Rattle.std.specs.Prelude.{ℕ, ◌+◌, ◌≤◌, ◌<◌, ◌≡◌, refl, List, map, length, Option, Some}
 use Rattle.std.proofs.Common.{sym, ap, ◌∙◌, subst, arith}
 use Rattle.rules.specs.declared.entry.Entry.{Entry}
 use Rattle.rules.specs.declared.place.Header.{Header}

@@ -1,6 +1,6 @@
 -- "asking for header 0, 1, 2 and so on gives every header of it, once, in order, and then no more": headers_in_order, each_once;
 -- "a made-up header count (it is the chain's length)": count_is_length; the headers as numbers: list_in_order. For each entry.
-use Rattle.std.specs.Prelude.{ℕ, zero, suc, ◌≤◌, ◌<◌, ◌+◌, ◌-◌, ◌≡◌, refl, List, [], ◌∷◌, map, length}
+use Rattle.std.specs.Prelude.{ℕ, zero, suc, ◌≤◌, ◌<◌, ◌+◌, ◌-◌, ◌≡◌, refl, List, [], ◌∷◌, map, length, Option, Some, None, Result, Ok, Err}
 use Rattle.std.proofs.Common.{sym, ap, ◌∙◌, arith}
 use Rattle.rules.specs.declared.refusal.Refusal.{Refusal}
 use Rattle.rules.specs.declared.place.Header.{Header}

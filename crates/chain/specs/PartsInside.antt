@@ -1,5 +1,5 @@
 -- Every part that a reply tells of an accepted frame lies in the frame: a caller may take its bytes unasked.
-use Rattle.std.specs.Prelude.{ℕ, zero, suc, ◌+◌, ◌≤◌, ◌≡◌, refl, List, [], ◌∷◌, ◌++◌, Bool, length}
+use Rattle.std.specs.Prelude.{ℕ, zero, suc, ◌+◌, ◌≤◌, ◌≡◌, refl, List, [], ◌∷◌, ◌++◌, Bool, length, Option, Some, None}
 use Rattle.std.proofs.Common.{sym, subst, arith}
 use Rattle.slicer.specs.declared.packet.IpPart.{IpPart}
 use Rattle.rules.specs.declared.entry.Entry.{Entry}

@@ -1,6 +1,7 @@
 -- "Each public answer is settled by its input alone": the public functions whose contract says `r ≡ value`, a statement each. The others are in
 -- Settled.antt; docs/SETTLED.md lists all, and bin/settled holds the list against the sources.
-use Rattle.std.specs.Prelude.{ℕ, ◌≡◌, Bool, List, eqb}
+use Rattle.std.specs.Prelude.{ℕ, ◌≡◌, Bool, List, eqb, Option}
+use Rattle.rules.specs.declared.refusal.Fault.{Fault}
 use Rattle.rules.specs.declared.entry.Entry.{Entry}
 use Rattle.rules.specs.declared.fragment.Fragment.{Fragment}
 use Rattle.rules.specs.declared.kind.Kind.{Kind}
@@ -107,8 +108,8 @@ ext-turn n place = by_value (ext_turn place n)
 pub opens_auth : (n : ℕ) → Settles (λ (r : Bool). r ≡ eqb n auth_number)
 opens_auth n = by_value (eqb n auth_number)
 
-pub stop_behind : Settles (λ (r : Stop). r ≡ S.Result TransportHeader Fault)
-stop_behind = by_value (S.Result TransportHeader Fault)
+pub stop_behind : Settles (λ (r : Stop). r ≡ S.TransportRead)
+stop_behind = by_value (S.TransportRead)
 
 -- ---- crate steps: what `clear` leaves in n lent numbers
 

@@ -129,7 +129,7 @@ module _ (entry : Entry) (s : List ℕ) (r : Result SlicedPacket Refusal) (e : S
           absurd (omega arith)
 
 -- no TCP header, no options
-none : (n : ℕ) → options_of n None ≡ None
+pub none : (n : ℕ) → options_of n None ≡ None
 unfolding options_of
 none n = refl
 

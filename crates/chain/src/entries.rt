@@ -7,6 +7,7 @@ ghost use Rattle.chain.specs.Accepted.{AcceptedIffChain};
 ghost use Rattle.chain.specs.Alike.{Alike};
 ghost use Rattle.chain.specs.Refused.{RefusedForAReason};
 
+use crate::outcome_of;
 use rules::{Ending, Entry, Refusal};
 use slicer::SlicedPacket;
 
@@ -15,7 +16,7 @@ pub fn from_ethernet(s: &[u8]) -> Result<Ending, Refusal>
     ensures refused { RefusedForAReason E.Ethernet s.now (λ (q : Refusal). result ≡ Err q) }
 {
     let reply = SlicedPacket::from_ethernet(s);
-    reply.map(|packet| packet.ending)
+    outcome_of(reply)
 }
 
 pub fn from_ipv4(s: &[u8]) -> Result<Ending, Refusal>
@@ -23,7 +24,7 @@ pub fn from_ipv4(s: &[u8]) -> Result<Ending, Refusal>
     ensures refused { RefusedForAReason E.Ipv4 s.now (λ (q : Refusal). result ≡ Err q) }
 {
     let reply = SlicedPacket::from_ipv4(s);
-    reply.map(|packet| packet.ending)
+    outcome_of(reply)
 }
 
 pub fn from_ipv6(s: &[u8]) -> Result<Ending, Refusal>
@@ -31,7 +32,7 @@ pub fn from_ipv6(s: &[u8]) -> Result<Ending, Refusal>
     ensures refused { RefusedForAReason E.Ipv6 s.now (λ (q : Refusal). result ≡ Err q) }
 {
     let reply = SlicedPacket::from_ipv6(s);
-    reply.map(|packet| packet.ending)
+    outcome_of(reply)
 }
 
 // Every frame that is alike gets the same reply.

@@ -5,11 +5,13 @@
 
 ghost use Rattle.std.specs.Prelude.{◌≡◌, Err};
 ghost use Rattle.rules.specs.declared.refusal.Refusal.{Refusal};
+ghost use Rattle.chain.specs.Answers.{outcome_of};
 ghost use Rattle.chain.specs.Accepted.{AcceptedIffChain};
 ghost use Rattle.chain.specs.Headers.{HeadersInOrder, CountIsLength};
 ghost use Rattle.chain.specs.Refused.{RefusedForAReason};
 
 use rules::{Ending, Entry, Header, Refusal};
+use slicer::SlicedPacket;
 
 pub mod entries;
 pub mod exported;
@@ -18,13 +20,20 @@ pub mod options;
 pub mod sums;
 pub mod texts;
 
+// How a reply ends.
+fn outcome_of(reply: Result<SlicedPacket, Refusal>) -> Result<Ending, Refusal>
+    ensures { result ≡ outcome_of reply }
+{
+    reply.map(|packet| packet.ending)
+}
+
 // How the walk of a frame ends: accepted exactly when there is a chain; refused exactly where the walk breaks.
 pub fn outcome(s: &[u8], entry: Entry) -> Result<Ending, Refusal>
     ensures accepted { AcceptedIffChain entry s.now result }
     ensures refused { RefusedForAReason entry s.now (λ (q : Refusal). result ≡ Err q) }
 {
     let reply = slicer::slice(s, entry);
-    let told = reply.map(|packet| packet.ending);
+    let told = outcome_of(reply);
     told
 }
 

@@ -5,8 +5,8 @@ use Rattle.chain.proofs.entries.from_ipv6.Goals as goal
 
 pub returns-clause-accepted : goal.returns-clause-accepted
 returns-clause-accepted c =
-    accepted_iff_chain _ _ _ c.from_ipv6-reply.ensures.reply
+    rw c.outcome_of.ensures (accepted_iff_chain _ _ c.from_ipv6-reply.result c.from_ipv6-reply.ensures.reply)
 
 pub returns-clause-refused : goal.returns-clause-refused
 returns-clause-refused c =
-    reply_refused_for_a_reason _ _ _ c.from_ipv6-reply.ensures.reply
+    rw c.outcome_of.ensures (reply_refused_for_a_reason _ _ c.from_ipv6-reply.result c.from_ipv6-reply.ensures.reply)
