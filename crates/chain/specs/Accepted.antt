@@ -32,7 +32,7 @@ chain→reply entry s r e c = e ∙ chain_reply entry s c
 
 is_accepted : (o : Result Ending Refusal) {x : Stopped} → outcome_on_paper o ≡ P.accepted x → (e : Ending) × (o ≡ Ok e) × (ending_on_paper e ≡ x)
 is_accepted (Ok e) q = (e, refl, cc)
-is_accepted (Err r) q = let z : ◌≡◌ {A = ℕ} 0 1 = cc in absurd (omega arith)
+is_accepted (Err r) q = cc
 
 chain→accepted : (entry : Entry) (s : List ℕ) {hs : List HeaderAt} {x : Stopped} (r : Result SlicedPacket Refusal) → Sliced entry s r → HasChain entry s hs x
     → (e : Ending) × ((outcome_of r) ≡ Ok e) × (ending_on_paper e ≡ x)
@@ -49,7 +49,7 @@ accepted→chain entry s r {e} q o = go (walked entry s) (sym (ap outcome_on_pap
       where
         unaccept : {a b : Stopped} → P.accepted a ≡ P.accepted b → b ≡ a
         unaccept e = cc
-    go (broken_walk b) y = let w : ◌≡◌ {A = ℕ} 0 1 = cc in absurd (omega arith)
+    go (broken_walk b) y = cc
 
 -- every answer of `slice` is so
 pub accepted_iff_chain : (entry : Entry) (s : List ℕ) (r : Result SlicedPacket Refusal) → Sliced entry s r → AcceptedIffChain entry s (outcome_of r)

@@ -71,13 +71,13 @@ all_below n (m ∷ ms) = pick (ltb m n) (all_below n ms) false
 
 below : (n i : ℕ) (l : List ℕ) → all_below n l ≡ true → is_one_of i l ≡ true → i < n
 unfolding all_below
-below n i [] a h = let z : ◌≡◌ {A = ℕ} 0 1 = cc in absurd (omega arith)
+below n i [] a h = cc
 below n i (m ∷ ms) a h = go (ltb m n) refl (eqb i m) refl (below n i ms)
   where
     go : (b : Bool) → ltb m n ≡ b → (c : Bool) → eqb i m ≡ c → (all_below n ms ≡ true → is_one_of i ms ≡ true → i < n) → i < n
     go true p true q rec = omega (arith, ltb-true m n p, eqb-true i m q)
     go true p false q rec = rec (cc) (cc)
-    go false p c q rec = let z : ◌≡◌ {A = ℕ} 0 1 = cc in absurd (omega arith)
+    go false p c q rec = cc
 
 early : (k : Kind) → all_below (least_length k) (deciding k) ≡ true
 unfolding all_below

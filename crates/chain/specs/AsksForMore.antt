@@ -118,7 +118,7 @@ late_asks at room required have source n v = absurd (omega arith)
 -- ---- a step
 
 settle-asks : (v : Verdict Found) (at : ℕ) (room : RoomSource) {r : Row} → ((f : Failure) → v ≡ failed f → Sound f) → settle v at room ≡ refuses r → Asks r
-settle-asks (whole x) at room h e = let z : ◌≡◌ {A = ℕ} 0 1 = cc in absurd (omega arith)
+settle-asks (whole x) at room h e = cc
 settle-asks (failed f) at room {r} h e = let z : placed f at room ≡ r = cc in subst Asks z (asks f at room (h f refl))
 
 read-asks : (s : List ℕ) (p : Place) {r : Row} → read s p ≡ refuses r → Asks r
@@ -129,8 +129,8 @@ read-asks s p e =
 
 follow-asks : (t : Turn) (p : Room) (past : ℕ) (n : Number) (to : ℕ) {r : Row} → follow t p past n to ≡ wrong r → Asks r
 unfolding follow
-follow-asks (T.Opens k) p past n to e = let z : ◌≡◌ {A = ℕ} 0 1 = cc in absurd (omega arith)
-follow-asks (T.Stops stop) p past n to e = let z : ◌≡◌ {A = ℕ} 0 1 = cc in absurd (omega arith)
+follow-asks (T.Opens k) p past n to e = cc
+follow-asks (T.Stops stop) p past n to e = cc
 follow-asks T.LateHopByHop p past n to {r} e =
     let z : placed (other hop_by_hop_not_at_start (Of HopByHop) 0) past p.source ≡ r = cc in
     subst Asks z (late_asks past p.source)
@@ -143,8 +143,8 @@ steps_ask s p {r} e = go (read s p) refl e
     un e = cc
 
     leads_ask : (len : ℕ) (f : Follow) → ((q : Row) → f ≡ wrong q → Asks q) → leads len f ≡ refused r → Asks r
-    leads_ask len (next q) h e = let z : ◌≡◌ {A = ℕ} 0 1 = cc in absurd (omega arith)
-    leads_ask len (halt x) h e = let z : ◌≡◌ {A = ℕ} 0 1 = cc in absurd (omega arith)
+    leads_ask len (next q) h e = cc
+    leads_ask len (halt x) h e = cc
     leads_ask len (wrong q) h e = subst Asks (un e) (h q refl)
 
     go : (d : PlaceRead) → read s p ≡ d → steps d ≡ refused r → Asks r

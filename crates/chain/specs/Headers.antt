@@ -94,7 +94,7 @@ each_once (last h c) a b = let z = at_below b in absurd (omega arith)
 -- ---- and the other way: what is answered comes from a chain
 
 pub at_of : (hs : List HeaderAt) (k : ℕ) {h : Header} → nth (map header hs) k ≡ is h → (e : HeaderAt) × At hs k e × (header e ≡ h)
-at_of [] k q = let w : ◌≡◌ {A = ℕ} 0 1 = cc in absurd (omega arith)
+at_of [] k q = cc
 at_of (e ∷ hs) zero q = (e, here, cc)
 at_of (e ∷ hs) (suc k) q = let z = at_of hs k q in (z.0, later z.1, z.2)
 
@@ -104,7 +104,7 @@ header→chain entry s k r h q o = go (walked entry s) (sym (ap header_on_paper 
   where
     go : {t : Trace HeaderAt} → Walked entry s t → is h ≡ header_of t k → FromChain entry s k h
     go (whole_walk {hs} {x} c) y = let z = at_of hs k (sym y) in (hs, x, z.0, c, z.1, z.2)
-    go (broken_walk b) y = let w : ◌≡◌ {A = ℕ} 0 1 = cc in absurd (omega arith)
+    go (broken_walk b) y = cc
 
 count→chain : (entry : Entry) (s : List ℕ) (r : Result ℕ Refusal) (n : ℕ) → CountIs entry s r → r ≡ Ok n → ChainOfLength entry s n
 unfolding count_of
@@ -112,7 +112,7 @@ count→chain entry s r n q o = go (walked entry s) (sym (ap count_on_paper o) �
   where
     go : {t : Trace HeaderAt} → Walked entry s t → is n ≡ count_of t → ChainOfLength entry s n
     go (whole_walk {hs} {x} c) y = (hs, x, c, cc)
-    go (broken_walk b) y = let w : ◌≡◌ {A = ℕ} 0 1 = cc in absurd (omega arith)
+    go (broken_walk b) y = cc
 
 -- ---- every answer of `header` and of `count` is so
 

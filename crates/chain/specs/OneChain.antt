@@ -17,7 +17,7 @@ one_chain a b = let z = sym (chain→trace a) ∙ chain→trace b in (cc, cc)
 
 -- and a frame that has a chain is not refused
 pub not_both : {s : List ℕ} {p : Place} {hs hs' : List HeaderAt} {x : Stopped} {r : Row} → Chain s p hs x → Broken s p hs' r → ⊥
-not_both a b = let z = sym (chain→trace a) ∙ broken→trace b in let y : ◌≡◌ {A = ℕ} 0 1 = cc in omega arith
+not_both a b = let z = sym (chain→trace a) ∙ broken→trace b in cc
 
 -- ---- of a frame, by its entry
 

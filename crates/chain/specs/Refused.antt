@@ -31,16 +31,16 @@ pub record RefusedForAReason (entry : Entry) (s : List ℕ) (Is : Refusal → Ty
   pub breaks : (q : Refusal) → Is q → (hs : List HeaderAt) × Breaks entry s hs (refusal_on_paper q)
 
 is_refused : (o : Result Ending Refusal) {r : Row} → outcome_on_paper o ≡ P.refused r → (q : Refusal) × (o ≡ Err q) × (refusal_on_paper q ≡ r)
-is_refused (Ok e) h = let z : ◌≡◌ {A = ℕ} 0 1 = cc in absurd (omega arith)
+is_refused (Ok e) h = cc
 is_refused (Err q) h = (q, refl, cc)
 
 is_header_refused : (a : Result (Option Header) Refusal) {r : Row} → header_on_paper a ≡ refusal r → (q : Refusal) × (a ≡ Err q) × (refusal_on_paper q ≡ r)
-is_header_refused (Ok (Some h)) e = let z : ◌≡◌ {A = ℕ} 0 1 = cc in absurd (omega arith)
-is_header_refused (Ok None) e = let z : ◌≡◌ {A = ℕ} 0 1 = cc in absurd (omega arith)
+is_header_refused (Ok (Some h)) e = cc
+is_header_refused (Ok None) e = cc
 is_header_refused (Err q) e = (q, refl, cc)
 
 is_count_refused : (a : Result ℕ Refusal) {r : Row} → count_on_paper a ≡ refusal r → (q : Refusal) × (a ≡ Err q) × (refusal_on_paper q ≡ r)
-is_count_refused (Ok n) e = let z : ◌≡◌ {A = ℕ} 0 1 = cc in absurd (omega arith)
+is_count_refused (Ok n) e = cc
 is_count_refused (Err q) e = (q, refl, cc)
 
 -- ---- a walk that breaks is refused with the row at which it breaks, whatever is asked
@@ -63,8 +63,8 @@ module _ (entry : Entry) (s : List ℕ) {hs : List HeaderAt} {r : Row} (b : Brea
 
 -- a list of headers has no refusal at any number
 pub nth_not : (hs : List HeaderAt) (k : ℕ) {r : Row} → refusal r ≡ nth (map header hs) k → ⊥
-nth_not [] k y = let w : ◌≡◌ {A = ℕ} 0 1 = cc in omega arith
-nth_not (h ∷ hs) zero y = let w : ◌≡◌ {A = ℕ} 0 1 = cc in omega arith
+nth_not [] k y = cc
+nth_not (h ∷ hs) zero y = cc
 nth_not (h ∷ hs) (suc k) y = nth_not hs k y
 
 module _ (entry : Entry) (s : List ℕ) (q : Refusal) where
@@ -77,7 +77,7 @@ module _ (entry : Entry) (s : List ℕ) (q : Refusal) where
 
   reply→broken : {t : Trace HeaderAt} → Walked entry s t → P.refused (refusal_on_paper q) ≡ (gathered slice_way nothing t).ended → BreaksSo
   unfolding gathered
-  reply→broken (whole_walk c) y = let w : ◌≡◌ {A = ℕ} 0 1 = cc in absurd (omega arith)
+  reply→broken (whole_walk c) y = cc
   reply→broken (broken_walk b) y = breaks_so b (cc)
 
   header→broken : {t : Trace HeaderAt} (k : ℕ) → Walked entry s t → refusal (refusal_on_paper q) ≡ header_of t k → BreaksSo
@@ -87,7 +87,7 @@ module _ (entry : Entry) (s : List ℕ) (q : Refusal) where
 
   count→broken : {t : Trace HeaderAt} → Walked entry s t → refusal (refusal_on_paper q) ≡ count_of t → BreaksSo
   unfolding count_of
-  count→broken (whole_walk c) y = let w : ◌≡◌ {A = ℕ} 0 1 = cc in absurd (omega arith)
+  count→broken (whole_walk c) y = cc
   count→broken (broken_walk b) y = breaks_so b (cc)
 
 -- ---- every answer of `slice`, `header` and `count` is so

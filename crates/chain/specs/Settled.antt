@@ -213,8 +213,8 @@ header_at w kind at p x y e f = go x y (e ∙ sym f)
     go : (x y : Result HeaderFound Refusal) → header_read_on_paper x at p ≡ header_read_on_paper y at p → SameRead x y
     go (Ok x) (Ok y) e = same_found at p x y (unread e)
     go (Err q) (Err r) e = settled_by refusal-back (unrefuse e) refl
-    go (Ok x) (Err r) e = let z : ◌≡◌ {A = ℕ} 0 1 = cc in omega arith
-    go (Err q) (Ok y) e = let z : ◌≡◌ {A = ℕ} 0 1 = cc in omega arith
+    go (Ok x) (Err r) e = cc
+    go (Err q) (Ok y) e = cc
 
 -- ---- the slicer: the reply with the unused slots of its tags
 

@@ -107,7 +107,7 @@ module _ (entry : Entry) (s : List ℕ) (r : Result SlicedPacket Refusal) (e : S
     where
       go : From hs None h → OneOf hs h
       go (of_list w) = w
-      go (of_before q) = let z : ◌≡◌ {A = ℕ} 0 1 = cc in absurd (omega arith)
+      go (of_before q) = cc
 
   is_tcp : (g : HeaderAt) → header g ≡ h → g.kind ≡ Tcp
   is_tcp g q = settled_by kind-back (ap (λ (y : Header). y.kind) q ∙ k) refl
@@ -125,8 +125,7 @@ module _ (entry : Entry) (s : List ℕ) (r : Result SlicedPacket Refusal) (e : S
           sym (there (length s) (sym o) k (omega (arith, at, len, inside)) (omega (arith, at, len, inside)) (omega (arith, len, long))).0
       go (broken_walk b) =
           let z = sym (ap (λ (p : Reply). p.transport) (broken→reply entry s b r e)) ∙ o in
-          let y : ◌≡◌ {A = ℕ} 0 1 = cc in
-          absurd (omega arith)
+          cc
 
 -- no TCP header, no options
 pub none : (n : ℕ) → options_of n None ≡ None
@@ -163,7 +162,7 @@ unfolding turn_of
 tcp-ends k g p {j} e q = go (subst (λ (i : Kind). turn_of i g p ≡ U.Opens j) e q)
   where
     go : turn_of Tcp g p ≡ U.Opens j → ⊥
-    go q = let z : ◌≡◌ {A = ℕ} 0 1 = cc in omega arith
+    go q = cc
 
 put-tcp : (k : Kind) (f : Parts) (e : HeaderAt) → k ≡ Tcp → (put k f e).transport ≡ Some (header e)
 put-tcp k f e q = subst (λ (j : Kind). (put j f e).transport ≡ Some (header e)) (sym q) refl

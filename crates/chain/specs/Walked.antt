@@ -37,14 +37,14 @@ stands s p h =
 module _ {A : Type 0} (x : A) where
   pub judged_first : (ts : List Test) {f : Failure} → judge ts x ≡ failed f → FirstFailed ts f
   unfolding judge
-  judged_first [] e = let z : ◌≡◌ {A = ℕ} 0 1 = cc in absurd (omega arith)
+  judged_first [] e = cc
   judged_first (t ∷ ts) {f} e = go (passes t) refl (judged_first ts)
     where
       go : (b : Bool) → passes t ≡ b → (judge ts x ≡ failed f → FirstFailed ts f) → FirstFailed (t ∷ ts) f
       go true q rec = later (holds t q) (rec (cc))
       go false q rec =
           let z : failure t ≡ f = cc in
-          subst (FirstFailed (t ∷ ts)) z (this (λ h. let y = pass t h in let w : ◌≡◌ {A = ℕ} 0 1 = cc in omega arith))
+          subst (FirstFailed (t ∷ ts)) z (this (λ h. let y = pass t h in cc))
 
   pub first_judged : {ts : List Test} {f : Failure} → FirstFailed ts f → judge ts x ≡ failed f
   unfolding judge
@@ -76,8 +76,8 @@ follows s p = go (turn_of p.kind (bytes s p) (room_at s p)) refl
 
 follows_next : {s : List ℕ} {p q : Place} {f : Follow} → Follows s p f → f ≡ next q → Leads s p q
 follows_next {s} {p} {q} (leads {q = q'} l) e = let z : q' ≡ q = cc in subst (Leads s p) z l
-follows_next (ends c) e = let z : ◌≡◌ {A = ℕ} 0 1 = cc in absurd (omega arith)
-follows_next (bad c) e = let z : ◌≡◌ {A = ℕ} 0 1 = cc in absurd (omega arith)
+follows_next (ends c) e = cc
+follows_next (bad c) e = cc
 
 pub next_leads : (s : List ℕ) (p : Place) {q : Place} → (found_at s p).follow ≡ next q → Leads s p q
 next_leads s p e = follows_next (follows s p) e
@@ -139,7 +139,7 @@ onward-means go h (bad e) m = late_hop h e
 
 settle_refuses : (v : Verdict Found) (p : Place) {r : Row} → settle v p.at p.room.source ≡ refuses r
     → (f : Failure) × (v ≡ failed f) × (placed f p.at p.room.source ≡ r)
-settle_refuses (whole y) p e = let z : ◌≡◌ {A = ℕ} 0 1 = cc in absurd (omega arith)
+settle_refuses (whole y) p e = cc
 settle_refuses (failed f) p e = (f, refl, cc)
 
 step-means : (s : List ℕ) (p : Place) (go : Place → Trace HeaderAt) → ((q : Place) → Means s q (go q)) → (r : PlaceRead) → read s p ≡ r → Means s p (step p r go)

@@ -40,28 +40,28 @@ opening_begins e s {p} q = go (opened e s) q
   where
     go : {f : Follow} → Opened s f → f ≡ next p → Begins s p
     go (starts k) q = let z : start k s ≡ p = cc in subst (Begins s) z (record { at_0 = refl; whole_room = refl })
-    go (refuses h a) q = let z : ◌≡◌ {A = ℕ} 0 1 = cc in absurd (omega arith)
+    go (refuses h a) q = cc
 
 -- no frame is accepted before its first header
 pub never_halts : (e : Entry) (s : List ℕ) {x : Stopped} → opening e s ≡ halt x → ⊥
 never_halts e s {x} q = go (opened e s) q
   where
     go : {f : Follow} → Opened s f → f ≡ halt x → ⊥
-    go (starts k) q = let z : ◌≡◌ {A = ℕ} 0 1 = cc in omega arith
-    go (refuses h a) q = let z : ◌≡◌ {A = ℕ} 0 1 = cc in omega arith
+    go (starts k) q = cc
+    go (refuses h a) q = cc
 
 pub opening_offset : (e : Entry) (s : List ℕ) {r : Row} → opening e s ≡ wrong r → r.offset ≤ length s
 opening_offset e s {r} q = go (opened e s) q
   where
     go : {f : Follow} → Opened s f → f ≡ wrong r → r.offset ≤ length s
-    go (starts k) q = let z : ◌≡◌ {A = ℕ} 0 1 = cc in absurd (omega arith)
+    go (starts k) q = cc
     go (refuses {r = r'} h a) q = let z : r' ≡ r = cc in subst (λ (y : Row). y.offset ≤ length s) z h
 
 pub opening-asks : (e : Entry) (s : List ℕ) {r : Row} → opening e s ≡ wrong r → Asks r
 opening-asks e s {r} q = go (opened e s) q
   where
     go : {f : Follow} → Opened s f → f ≡ wrong r → Asks r
-    go (starts k) q = let z : ◌≡◌ {A = ℕ} 0 1 = cc in absurd (omega arith)
+    go (starts k) q = cc
     go (refuses {r = r'} h a) q = let z : r' ≡ r = cc in subst Asks z a
 
 -- ---- a second frame
