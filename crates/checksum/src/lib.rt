@@ -15,7 +15,7 @@ const ONES: u16 = 0xffff;
 const BLOCK: usize = 65536;
 
 // The sum so far, kept folded: every value of the field is a sum, no sum overflows, and so adding has nothing to refuse.
-#[derive(Clone, Copy)]
+#[derive(Clone, Copy, Debug, Default, PartialEq, Eq)]
 pub struct Sum16BitWords {
     pub sum: u16,
 }
@@ -34,8 +34,8 @@ fn folded(x: u32) -> u16
 fn add_turned(start: u16, sum: u32) -> u16
     ensures { result ≡ fold (start + sum * base) }
 {
-    let turned = folded(sum) as u32 * 256;
-    folded(start as u32 + turned)
+    let turned = u32::from(folded(sum)) * 256;
+    folded(u32::from(start) + turned)
 }
 
 // The sum of pairs of bytes, the first of each as its low byte.
@@ -84,9 +84,9 @@ impl Sum16BitWords {
         ensures answer { result.sum ≡ add_slice self.sum slice.now }
         ensures unwritten { slice.exit.now ≡ slice.entry.now }
     {
-        let start = self.sum;
-        let sum = add_blocks(start, slice);
-        Sum16BitWords { sum }
+        Sum16BitWords {
+            sum: add_blocks(self.sum, slice),
+        }
     }
 
     // The number that goes into the header, high byte first.
@@ -100,10 +100,9 @@ impl Sum16BitWords {
     pub fn to_ones_complement_with_no_zero(self) -> u16
         ensures { result ≡ without_zero (answer self.sum) }
     {
-        let complement = self.ones_complement();
-        if complement == 0 {
-            return ONES;
+        match self.ones_complement() {
+            0 => ONES,
+            complement => complement,
         }
-        complement
     }
 }

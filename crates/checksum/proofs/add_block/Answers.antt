@@ -1,10 +1,12 @@
--- `add_block` meets its contract. Assumes nothing.
-use mathlib.Core.Path.{◌∙◌}
+-- `add_block` meets its contract: the pairs' sum is within 32 bits, and turned, with the byte that may be left, it adds the block's total.
+-- Assumes nothing.
+use mathlib.Core.Path.{◌≡◌, ap, ◌∙◌}
+use Prim.Native.Nat.{◌/◌}
 use native.Mathlib.Omega.{arith}
-use Rattle.std.proofs.Common.{length, ◌/◌, ◌≡◌, ap, rules, get_or, drop, w16, ◌+◌, ◌*◌, sym}
+use lib.ListN.{length, get_or}
 use Rattle.std.proofs.lemmas.Grind.{common_steps}
-use Rattle.checksum.specs.Sum.{fold, base, total}
-use Rattle.checksum.proofs.Blocks.{pairs, pairs_le, turned, left}
+use Rattle.checksum.specs.Sum.{fold}
+use Rattle.checksum.proofs.Blocks.{pairs_le, by_pairs, left}
 use Rattle.checksum.proofs.add_block.Goals as goal
 
 pub low_first-requires : goal.low_first-requires
@@ -23,9 +25,9 @@ overflow_add-low_first c =
 pub returns : goal.returns
 returns c =
     let s = c.args.slice.now in
-    let k = length s / 2 in
+    let rest = c.as_chunks.result.1.now in
     let e = rw c.as_chunks.ensures.front at c.low_first.ensures in
-    let f : c.from.result ≡ get_or c.as_chunks.result.1.now 0 0 = grind (arith, common_steps) in
-    let l = left c.as_chunks.result.1.now (omega arith) in
-    let t = rw (← c.as_chunks.ensures.back, l) at (turned k s c.args.start (omega arith)) in
+    let f : c.from.result ≡ get_or rest 0 0 = grind (arith, common_steps) in
+    let l = left rest (omega arith) in
+    let t = rw (← c.as_chunks.ensures.back, l) at (by_pairs (length s / 2) s c.args.start (omega arith)) in
     c.add_turned.ensures ∙ ap fold (omega arith) ∙ t
