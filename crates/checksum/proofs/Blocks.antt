@@ -7,8 +7,11 @@ use lib.ListN.{length, get_or, drop}
 use mir.Syntax.{w8, w16}
 use mir.Val.{Fits}
 use denote.Ref.{Bor}
+use Rattle.std.specs.Option.{MatchOption, option_copied, unwrap_or}
+use Rattle.std.proofs.Common.{Option, None, Some}
+use Rattle.std.proofs.lemmas.Option.{unwrap_or-slice_get}
 use Rattle.std.specs.Int.{from_le_bytes}
-use Rattle.std.specs.List.{sum_by, FoldsTo}
+use Rattle.std.specs.List.{sum_by, FoldsTo, slice_get}
 use Rattle.std.specs.Iterator.{Drains}
 use Rattle.std.specs.Simd.{first_chunks}
 use Rattle.std.specs.Slice.Iter.{chunks_rest, chunks_size, chunks_steps}
@@ -52,6 +55,12 @@ unfolding total
 left [] h = refl
 left (a ∷ []) h = omega arith
 left (a ∷ b ∷ s) h = absurd (omega arith)
+
+-- the first byte of a slice by `first`, 0 if there is none
+pub first_or : (r : Option (Bor ℕ)) (s : List ℕ) (n : ℕ) (Q : Bor ℕ → Type 0) → option_copied r ≡ slice_get s 0 → MatchOption r (n ≡ 0) Q → ((x : Bor ℕ) → Q x → n ≡ x.now)
+    → n ≡ get_or s 0 0
+first_or None s n Q v m f = m ∙ ap (λ o. unwrap_or o 0) v ∙ unwrap_or-slice_get s 0 0
+first_or (Some x) s n Q v m f = f x m ∙ ap (λ o. unwrap_or o 0) v ∙ unwrap_or-slice_get s 0 0
 
 -- ---- from block to block
 
