@@ -70,10 +70,10 @@ total-none [] h = refl
 total-none (a ∷ s) h = absurd (omega arith)
 
 -- A block of even length, or the last one, and what follows it are added word by word.
-total-block : (n : ℕ) (b r : List ℕ) → n % 2 ≡ 0 → length b ≡ min n (length (b ++ r)) → total (b ++ r) ≡ total b + total r
+total_on : (n : ℕ) (b r : List ℕ) → n % 2 ≡ 0 → length b ≡ min n (length (b ++ r)) → total (b ++ r) ≡ total b + total r
 unfolding total
-total-block n b [] e l = ap total (append-nil b) ∙ omega arith
-total-block n b (a ∷ r) e l = total-append b (a ∷ r) (omega (arith, length-append b (a ∷ r)))
+total_on n b [] e l = ap total (append-nil b) ∙ omega arith
+total_on n b (a ∷ r) e l = total-append b (a ∷ r) (omega (arith, length-append b (a ∷ r)))
 
 -- A fold over blocks of even length, whose turns R each add a block to the state, adds all that is left.
 module _ {F : Type 0} (R : F × ℕ → Bor (List ℕ) → F × ℕ → Type 0) (adds : (p : F × ℕ) (b : Bor (List ℕ)) (q : F × ℕ) → R p b q → q.1 ≡ add_slice p.1 b.now) where
@@ -84,6 +84,6 @@ module _ {F : Type 0} (R : F × ℕ → Bor (List ℕ) → F × ℕ → Type 0) 
       ap (λ x. x.1) (sym f) ∙ sym (fold_small p.1 h) ∙ ap fold (omega arith)
   by_blocks (b ∷ bs) s p q e h (u, (t, (j, step, y), end)) (m, turn, f) =
       let cut = step.1.0 in
-      let parts = ap total cut ∙ total-block (chunks_size s) b.now (chunks_rest j) e (step.1.1 ∙ ap (λ r. min (chunks_size s) (length r)) cut) in
+      let parts = ap total cut ∙ total_on (chunks_size s) b.now (chunks_rest j) e (step.1.1 ∙ ap (λ r. min (chunks_size s) (length r)) cut) in
       let more = by_blocks bs j m q (omega arith) (omega (arith, fold_le (p.1 + total b.now), adds p b m turn)) (u, (t, y, end)) f in
       rw (adds p b m turn) at more ∙ fold-fold (p.1 + total b.now) (total (chunks_rest j)) ∙ ap fold (omega arith)
