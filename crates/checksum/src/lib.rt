@@ -57,11 +57,10 @@ fn add_block(start: u16, slice: &[u8]) -> u16
     ensures { result ≡ add_slice start slice.now }
 {
     let (pairs, rest) = slice.as_chunks::<2>();
-    let sum = low_first(pairs);
     let last = rest
         .first()
         .map_or(0, |last| u16::from_le_bytes([*last, 0]));
-    add_turned(start, sum + u32::from(last))
+    add_turned(start, low_first(pairs) + u32::from(last))
 }
 
 // Block after block, and the state is folded behind each, so that no length of slice is too much. The last block is what is left, up to a

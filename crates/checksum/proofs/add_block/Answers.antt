@@ -9,24 +9,24 @@ use Rattle.checksum.specs.Sum.{fold}
 use Rattle.checksum.proofs.Blocks.{pairs_le, by_pairs, left, first_or}
 use Rattle.checksum.proofs.add_block.Goals as goal
 
-pub low_first-sum-requires : goal.low_first-sum-requires
-low_first-sum-requires c =
+pub low_first-requires : goal.low_first-requires
+low_first-requires c =
     let s = c.args.slice.now in
     let b = pairs_le (length s / 2) s (omega arith) c.type_inv.slice in
     rw c.as_chunks.ensures.front (omega arith)
 
-pub overflow_add-sum : goal.overflow_add-sum
-overflow_add-sum c =
+pub overflow_add-low_first : goal.overflow_add-low_first
+overflow_add-low_first c =
     let s = c.args.slice.now in
     let b = pairs_le (length s / 2) s (omega arith) c.type_inv.slice in
-    let e = rw c.as_chunks.ensures.front at c.low_first-sum.ensures in
+    let e = rw c.as_chunks.ensures.front at c.low_first.ensures in
     omega arith
 
 pub returns : goal.returns
 returns c =
     let s = c.args.slice.now in
     let rest = c.as_chunks.result.1.now in
-    let e = rw c.as_chunks.ensures.front at c.low_first-sum.ensures in
+    let e = rw c.as_chunks.ensures.front at c.low_first.ensures in
     let f : c.from.result ≡ get_or rest 0 0 = c.from.ensures ∙ first_or c.first.result rest _ _ c.first.ensures.value c.map_or-last.ensures (λ x q. search rules) in
     let l = left rest (omega arith) in
     let t = rw (← c.as_chunks.ensures.back, l) at (by_pairs (length s / 2) s c.args.start (omega arith)) in
