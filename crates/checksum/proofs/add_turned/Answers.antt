@@ -5,4 +5,4 @@ use Rattle.checksum.proofs.add_turned.Goals as goal
 
 pub returns : goal.returns
 returns c =
-    c.folded-2.ensures ∙ rw c.folded.ensures (fold-base _ _)
+    c.folded-2.ensures ∙ rw (c.from.ensures, c.from-turned.ensures, c.folded.ensures) (fold-base _ _)
