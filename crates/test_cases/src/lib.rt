@@ -2,6 +2,7 @@
 #![tactic(auto)]
 
 mod agree;
+mod buffer;
 mod compare;
 mod list;
 mod tally;

@@ -1,7 +1,7 @@
 // The tests of the IPv4 and IPv6 headers: one short, exact, one long, at both ways to each; their versions, and the bits of IPv4 fragments.
 use test_cases::Tally;
 
-fn ipv4_behind_ethernet(t: Tally) -> Tally {
+fn ipv4_behind_ethernet(t: &mut Tally) {
     test_cases::run(
         t,
         b"n IPv4 header, Ethernet
@@ -54,10 +54,10 @@ b 14 69
 1 38 ethernet2 0 14/ipv4 14 20/payload 34 4/stop 4
 b 14 70
 1 38 ethernet2 0 14/ipv4 14 24/payload 38 0/stop 4",
-    )
+    );
 }
 
-fn ipv4_entry(t: Tally) -> Tally {
+fn ipv4_entry(t: &mut Tally) {
     test_cases::run(
         t,
         b"n IPv4 header, IPv4 entry
@@ -105,10 +105,10 @@ b 0 69
 2 24 ipv4 0 20/payload 20 4/stop 4
 b 0 70
 2 24 ipv4 0 24/payload 24 0/stop 4",
-    )
+    );
 }
 
-fn ipv6_behind_ethernet(t: Tally) -> Tally {
+fn ipv6_behind_ethernet(t: &mut Tally) {
     test_cases::run(
         t,
         b"n IPv6 header, Ethernet
@@ -138,10 +138,10 @@ b 19 1
 1 55 ethernet2 0 14/ipv6 14 40/payload 54 1/stop 4
 b 19 2
 1 55 refused 1 ipv6-packet 14 required 42 have 41 source slice",
-    )
+    );
 }
 
-fn ipv6_entry(t: Tally) -> Tally {
+fn ipv6_entry(t: &mut Tally) {
     test_cases::run(
         t,
         b"n IPv6 header, IPv6 entry
@@ -168,10 +168,10 @@ b 5 1
 3 41 ipv6 0 40/payload 40 1/stop 4
 b 5 2
 3 41 refused 1 ipv6-packet 0 required 42 have 41 source slice",
-    )
+    );
 }
 
-fn longest_packets(t: Tally) -> Tally {
+fn longest_packets(t: &mut Tally) {
     test_cases::run(
         t,
         b"n the longest IPv4 packet
@@ -186,10 +186,10 @@ z 32
 3 65574 refused 1 ipv6-packet 0 required 65575 have 65574 source slice
 3 65575 ipv6 0 40/payload 40 65535/stop 4
 3 65576 ipv6 0 40/payload 40 65535/stop 4",
-    )
+    );
 }
 
-fn first_bytes(t: Tally) -> Tally {
+fn first_bytes(t: &mut Tally) {
     test_cases::run(
         t,
         b"n IPv4 versions
@@ -226,14 +226,14 @@ b 6 192
 2 28 ipv4 0 20/udp 20 8/payload 28 0/stop 5
 b 7 1
 2 28 ipv4 0 20/payload 20 8/stop 3",
-    )
+    );
 }
 
-pub fn run(t: Tally) -> Tally {
-    let t = ipv4_behind_ethernet(t);
-    let t = ipv4_entry(t);
-    let t = ipv6_behind_ethernet(t);
-    let t = ipv6_entry(t);
-    let t = longest_packets(t);
-    first_bytes(t)
+pub fn run(t: &mut Tally) {
+    ipv4_behind_ethernet(t);
+    ipv4_entry(t);
+    ipv6_behind_ethernet(t);
+    ipv6_entry(t);
+    longest_packets(t);
+    first_bytes(t);
 }

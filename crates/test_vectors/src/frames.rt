@@ -1,7 +1,7 @@
 // Document 01's frames, with the answers as it has them. Bytes that it leaves free are zero.
 use test_cases::Tally;
 
-fn link(t: Tally) -> Tally {
+fn link(t: &mut Tally) {
     test_cases::run(
         t,
         b"n F1
@@ -17,10 +17,10 @@ n F3
 z 12
 x 8100 0000 8100
 1 21 refused 1 vlan 18 required 4 have 3 source slice",
-    )
+    );
 }
 
-fn network(t: Tally) -> Tally {
+fn network(t: &mut Tally) {
     test_cases::run(
         t,
         b"n F4
@@ -53,11 +53,11 @@ z 8
 1 46 refused 6 auth 34
 b 17 31
 1 46 refused 1 auth 34 required 12 have 11 source ipv4",
-    )
+    );
 }
 
 // Document 01 names no IP version for F8 and F9: each stands here over both.
-fn transport(t: Tally) -> Tally {
+fn transport(t: &mut Tally) {
     test_cases::run(
         t,
         b"n F8 over IPv4
@@ -94,11 +94,11 @@ x 40
 1 74 refused 7 tcp 54 4
 b 66 96
 1 74 refused 1 tcp 54 required 24 have 20 source ipv6",
-    )
+    );
 }
 
 // F12, the 60-byte line, and the empty input.
-fn whole_texts(t: Tally) -> Tally {
+fn whole_texts(t: &mut Tally) {
     test_cases::run(
         t,
         b"n F12
@@ -116,12 +116,12 @@ n no bytes
 1 0 refused 1 ethernet2 0 required 14 have 0 source slice
 2 0 refused 1 ipv4 0 required 20 have 0 source slice
 3 0 refused 1 ipv6 0 required 40 have 0 source slice",
-    )
+    );
 }
 
-pub fn run(t: Tally) -> Tally {
-    let t = link(t);
-    let t = network(t);
-    let t = transport(t);
-    whole_texts(t)
+pub fn run(t: &mut Tally) {
+    link(t);
+    network(t);
+    transport(t);
+    whole_texts(t);
 }

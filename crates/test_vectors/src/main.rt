@@ -13,11 +13,12 @@ use test_cases::Tally;
 
 fn main() {
     io::write_all(1, b"vectors");
-    let t = frames::run(Tally::new());
-    let t = tired::run(t);
-    let t = sums::run(t);
-    let t = published::run(t);
-    let t = edges_link::run(t);
-    let t = edges_ip::run(t);
+    let mut t = Tally::new();
+    frames::run(&mut t);
+    tired::run(&mut t);
+    sums::run(&mut t);
+    published::run(&mut t);
+    edges_link::run(&mut t);
+    edges_ip::run(&mut t);
     t.report();
 }

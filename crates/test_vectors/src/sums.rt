@@ -3,7 +3,7 @@ use test_cases::Tally;
 
 // Document 01, F10. RFC 1071, section 3: the sum ddf2, the swapped order f2dd, and the two groups f201 and f0eb, of which the second
 // begins at an odd byte; the answers are the complements.
-fn rfc_1071(t: Tally) -> Tally {
+fn rfc_1071(t: &mut Tally) {
     test_cases::run(
         t,
         b"n F10
@@ -28,11 +28,11 @@ s 0dfe 0dfe
 x 03f4 f5f6 f7
 +
 s 0f14 0f14",
-    )
+    );
 }
 
 // RFC 1624, section 4: the other words of a header sum to cd7a, and a field changes from 5555 to 3285.
-fn rfc_1624(t: Tally) -> Tally {
+fn rfc_1624(t: &mut Tally) {
     test_cases::run(
         t,
         b"n RFC 1624
@@ -46,13 +46,13 @@ x cd7a
 x 3285
 +
 s 0000 ffff",
-    )
+    );
 }
 
 // IPv4 headers, each with a zero checksum and then with its own, over which the answer is 0: those of the English Wikipedia, "Internet
 // checksum"; of The Geek Stuff, "How to Calculate IP Header Checksum (With an Example)"; and of B. Forouzan, "Data Communications and
 // Networking", in the section on the IPv4 header checksum.
-fn headers(t: Tally) -> Tally {
+fn headers(t: &mut Tally) {
     test_cases::run(
         t,
         b"n Wikipedia
@@ -76,11 +76,11 @@ s 8bb1 8bb1
 x 4500 001c 0001 0000 0411 8bb1 0a0c 0e05 0c06 0709
 +
 s 0000 ffff",
-    )
+    );
 }
 
 // Carries at the edges of the fold, and odd slices.
-fn carries(t: Tally) -> Tally {
+fn carries(t: &mut Tally) {
     test_cases::run(
         t,
         b"n carries
@@ -112,12 +112,12 @@ x 0102 03
 x 04
 +
 s f7fd f7fd",
-    )
+    );
 }
 
-pub fn run(t: Tally) -> Tally {
-    let t = rfc_1071(t);
-    let t = rfc_1624(t);
-    let t = headers(t);
-    carries(t)
+pub fn run(t: &mut Tally) {
+    rfc_1071(t);
+    rfc_1624(t);
+    headers(t);
+    carries(t);
 }

@@ -1,7 +1,7 @@
 // The tests of the extension headers: one short, exact, one long, in rooms that a length field ends and in rooms that the slice ends.
 use test_cases::Tally;
 
-fn hop_by_hop(t: Tally) -> Tally {
+fn hop_by_hop(t: &mut Tally) {
     test_cases::run(
         t,
         b"n hop-by-hop, room by payload length
@@ -35,10 +35,10 @@ b 41 1
 3 55 refused 1 hop-by-hop 40 required 16 have 15 source slice
 3 56 ipv6 0 40/hop-by-hop 40 16/payload 56 0/stop 4
 3 57 ipv6 0 40/hop-by-hop 40 16/payload 56 1/stop 4",
-    )
+    );
 }
 
-fn routing(t: Tally) -> Tally {
+fn routing(t: &mut Tally) {
     test_cases::run(
         t,
         b"n routing, room by payload length
@@ -72,10 +72,10 @@ b 41 1
 3 55 refused 1 routing 40 required 16 have 15 source slice
 3 56 ipv6 0 40/routing 40 16/payload 56 0/stop 4
 3 57 ipv6 0 40/routing 40 16/payload 56 1/stop 4",
-    )
+    );
 }
 
-fn destination(t: Tally) -> Tally {
+fn destination(t: &mut Tally) {
     test_cases::run(
         t,
         b"n destination, room by payload length
@@ -109,10 +109,10 @@ b 41 1
 3 55 refused 1 destination 40 required 16 have 15 source slice
 3 56 ipv6 0 40/destination 40 16/payload 56 0/stop 4
 3 57 ipv6 0 40/destination 40 16/payload 56 1/stop 4",
-    )
+    );
 }
 
-fn chains(t: Tally) -> Tally {
+fn chains(t: &mut Tally) {
     test_cases::run(
         t,
         b"n a length byte of 255
@@ -142,10 +142,10 @@ z 4
 3 55 refused 1 fragment 48 required 8 have 7 source slice
 3 56 ipv6 0 40/routing 40 8/fragment 48 8/payload 56 0/stop 4
 3 57 ipv6 0 40/routing 40 8/fragment 48 8/payload 56 1/stop 4",
-    )
+    );
 }
 
-fn fragment(t: Tally) -> Tally {
+fn fragment(t: &mut Tally) {
     test_cases::run(
         t,
         b"n fragment, room by payload length
@@ -186,10 +186,10 @@ b 43 8
 3 56 ipv6 0 40/fragment 40 8/payload 48 8/stop 3
 b 43 9
 3 56 ipv6 0 40/fragment 40 8/payload 48 8/stop 3",
-    )
+    );
 }
 
-fn auth(t: Tally) -> Tally {
+fn auth(t: &mut Tally) {
     test_cases::run(
         t,
         b"n AUTH, room by payload length
@@ -248,10 +248,10 @@ z 10
 3 63 refused 1 auth 52 required 12 have 11 source slice
 3 64 ipv6 0 40/auth 40 12/auth 52 12/payload 64 0/stop 4
 3 65 ipv6 0 40/auth 40 12/auth 52 12/payload 64 1/stop 4",
-    )
+    );
 }
 
-fn auth_in_ipv4(t: Tally) -> Tally {
+fn auth_in_ipv4(t: &mut Tally) {
     test_cases::run(
         t,
         b"n AUTH in IPv4, Ethernet
@@ -312,15 +312,15 @@ z 10
 2 43 refused 1 ipv4-packet 0 required 44 have 43 source slice
 2 44 ipv4 0 20/auth 20 12/payload 32 12/stop 4
 2 45 ipv4 0 20/auth 20 12/payload 32 12/stop 4",
-    )
+    );
 }
 
-pub fn run(t: Tally) -> Tally {
-    let t = hop_by_hop(t);
-    let t = routing(t);
-    let t = destination(t);
-    let t = chains(t);
-    let t = fragment(t);
-    let t = auth(t);
-    auth_in_ipv4(t)
+pub fn run(t: &mut Tally) {
+    hop_by_hop(t);
+    routing(t);
+    destination(t);
+    chains(t);
+    fragment(t);
+    auth(t);
+    auth_in_ipv4(t);
 }

@@ -9,7 +9,8 @@ use test_cases::Tally;
 
 fn main() {
     io::write_all(1, b"vectors behind IP");
-    let t = exts::run(Tally::new());
-    let t = transport::run(t);
+    let mut t = Tally::new();
+    exts::run(&mut t);
+    transport::run(&mut t);
     t.report();
 }

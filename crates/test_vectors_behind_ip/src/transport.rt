@@ -2,7 +2,7 @@
 use test_cases::Tally;
 
 // A UDP length of 8, and then of 12.
-fn udp_in_ipv4(t: Tally) -> Tally {
+fn udp_in_ipv4(t: &mut Tally) {
     test_cases::run(
         t,
         b"n UDP, room by IPv4 total length, Ethernet
@@ -40,11 +40,11 @@ b 3 32
 2 34 ipv4 0 20/udp 20 8/payload 28 4/stop 5
 b 3 33
 2 34 ipv4 0 20/udp 20 8/payload 28 4/stop 5",
-    )
+    );
 }
 
 // The same.
-fn udp_in_ipv6(t: Tally) -> Tally {
+fn udp_in_ipv6(t: &mut Tally) {
     test_cases::run(
         t,
         b"n UDP, room by IPv6 payload length, Ethernet
@@ -82,11 +82,11 @@ b 5 12
 3 54 ipv6 0 40/udp 40 8/payload 48 4/stop 5
 b 5 13
 3 54 ipv6 0 40/udp 40 8/payload 48 4/stop 5",
-    )
+    );
 }
 
 // The same.
-fn udp_to_the_end(t: Tally) -> Tally {
+fn udp_to_the_end(t: &mut Tally) {
     test_cases::run(
         t,
         b"n UDP, room by the slice, Ethernet
@@ -112,10 +112,10 @@ b 45 12
 3 51 refused 1 udp-payload 40 required 12 have 11 source slice
 3 52 ipv6 0 40/udp 40 8/payload 48 4/stop 5
 3 53 ipv6 0 40/udp 40 8/payload 48 4/stop 5",
-    )
+    );
 }
 
-fn udp_lengths(t: Tally) -> Tally {
+fn udp_lengths(t: &mut Tally) {
     test_cases::run(
         t,
         b"n UDP length 7, 8 and 9
@@ -164,11 +164,11 @@ x 00350035 00080000
 3 55 refused 1 udp 48 required 8 have 7 source slice
 3 56 ipv6 0 40/hop-by-hop 40 8/udp 48 8/payload 56 0/stop 5
 3 57 ipv6 0 40/hop-by-hop 40 8/udp 48 8/payload 56 0/stop 5",
-    )
+    );
 }
 
 // A data offset of 5, and then of 6.
-fn tcp_in_ipv4(t: Tally) -> Tally {
+fn tcp_in_ipv4(t: &mut Tally) {
     test_cases::run(
         t,
         b"n TCP, room by IPv4 total length, Ethernet
@@ -206,11 +206,11 @@ b 3 44
 2 46 ipv4 0 20/tcp 20 24/payload 44 0/stop 5
 b 3 45
 2 46 ipv4 0 20/tcp 20 24/payload 44 1/stop 5",
-    )
+    );
 }
 
 // The same.
-fn tcp_in_ipv6(t: Tally) -> Tally {
+fn tcp_in_ipv6(t: &mut Tally) {
     test_cases::run(
         t,
         b"n TCP, room by IPv6 payload length, Ethernet
@@ -248,11 +248,11 @@ b 5 24
 3 66 ipv6 0 40/tcp 40 24/payload 64 0/stop 5
 b 5 25
 3 66 ipv6 0 40/tcp 40 24/payload 64 1/stop 5",
-    )
+    );
 }
 
 // The same.
-fn tcp_to_the_end(t: Tally) -> Tally {
+fn tcp_to_the_end(t: &mut Tally) {
     test_cases::run(
         t,
         b"n TCP, room by the slice, Ethernet
@@ -278,10 +278,10 @@ b 52 96
 3 63 refused 1 tcp 40 required 24 have 23 source slice
 3 64 ipv6 0 40/tcp 40 24/payload 64 0/stop 5
 3 65 ipv6 0 40/tcp 40 24/payload 64 1/stop 5",
-    )
+    );
 }
 
-fn tcp_offsets(t: Tally) -> Tally {
+fn tcp_offsets(t: &mut Tally) {
     test_cases::run(
         t,
         b"n TCP data offset 15
@@ -319,16 +319,16 @@ x 00500050 00000000 00000000 50020000 00000000
 3 67 refused 1 tcp 48 required 20 have 19 source slice
 3 68 ipv6 0 40/destination 40 8/tcp 48 20/payload 68 0/stop 5
 3 69 ipv6 0 40/destination 40 8/tcp 48 20/payload 68 1/stop 5",
-    )
+    );
 }
 
-pub fn run(t: Tally) -> Tally {
-    let t = udp_in_ipv4(t);
-    let t = udp_in_ipv6(t);
-    let t = udp_to_the_end(t);
-    let t = udp_lengths(t);
-    let t = tcp_in_ipv4(t);
-    let t = tcp_in_ipv6(t);
-    let t = tcp_to_the_end(t);
-    tcp_offsets(t)
+pub fn run(t: &mut Tally) {
+    udp_in_ipv4(t);
+    udp_in_ipv6(t);
+    udp_to_the_end(t);
+    udp_lengths(t);
+    tcp_in_ipv4(t);
+    tcp_in_ipv6(t);
+    tcp_to_the_end(t);
+    tcp_offsets(t);
 }
