@@ -21,6 +21,5 @@ pub fn agrees(frame: &[u8], entry: Entry, answer: &[u8]) -> bool
     ensures { (result ≡ true → Agrees (text_of entry frame.now) answer.now) × (Agrees (text_of entry frame.now) answer.now → result ≡ true) }
 {
     let mut buffer = [0; ROOM];
-    let text = text(frame, entry, &mut buffer);
-    text.is_some_and(|text| text == answer)
+    text(frame, entry, &mut buffer).is_some_and(|text| text == answer)
 }

@@ -2,6 +2,8 @@
 // goes in.
 ghost use Rattle.std.specs.Prelude.{◌≤◌};
 
+use crate::text::{pair, unslashed};
+
 #[derive(Drop)]
 pub struct Buffer<const N: usize> {
     room: [u8; N],
@@ -31,6 +33,24 @@ impl<const N: usize> Buffer<N> {
             self.room[self.len] = byte;
             self.len += 1;
         }
+    }
+
+    // Two hexadecimal digits make a byte; spaces may stand between bytes.
+    pub fn push_hex(&mut self, digits: &[u8]) {
+        for word in digits.split(|c| *c == b' ') {
+            let (pairs, _) = word.as_chunks::<2>();
+            for [high, low] in pairs {
+                self.push(pair(*high, *low));
+            }
+        }
+    }
+
+    // An answer of several lines, which stand in a list with slashes between them.
+    pub fn push_lines(&mut self, listed: &[u8]) {
+        for c in listed {
+            self.push(unslashed(*c));
+        }
+        self.push(b'\n');
     }
 
     // Zero bytes behind those that are there.

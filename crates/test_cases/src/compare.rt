@@ -1,7 +1,6 @@
 // One case: the answer compared with the listed one, and the outcome printed. Each answers whether they are the same.
 use crate::agree::{ROOM, agrees, text};
 use crate::buffer::Buffer;
-use crate::text::{decode, lines};
 use checksum::Sum16BitWords;
 use rules::Entry;
 
@@ -29,7 +28,7 @@ pub fn not_understood() -> bool {
 
 pub fn sliced(frame: &[u8], entry: Entry, listed: &[u8]) -> bool {
     let mut answer = Buffer::<ROOM>::new();
-    lines(listed, &mut answer);
+    answer.push_lines(listed);
     let answer = answer.bytes();
     let same = agrees(frame, entry, answer);
     if same {
@@ -43,7 +42,7 @@ pub fn sliced(frame: &[u8], entry: Entry, listed: &[u8]) -> bool {
 // The checksum and its no-zero form, listed as the four bytes that go into headers.
 pub fn summed(sum: Sum16BitWords, listed: &[u8]) -> bool {
     let mut answer = Buffer::<4>::new();
-    decode(listed, &mut answer);
+    answer.push_hex(listed);
     let [a, b, c, d] = *answer.room();
     let plain = sum.ones_complement() == u16::from_be_bytes([a, b]);
     let no_zero = sum.to_ones_complement_with_no_zero() == u16::from_be_bytes([c, d]);

@@ -10,9 +10,10 @@
 use crate::buffer::Buffer;
 use crate::compare::{not_understood, sliced, summed};
 use crate::tally::Tally;
-use crate::text::{behind, decode, number};
+use crate::text::{behind, number};
 use checksum::Sum16BitWords;
 use rules::Entry;
+use std::mem;
 
 // More than the longest packet that a length field can tell of: 40 + 65,535 bytes.
 const ROOM: usize = 65600;
@@ -40,7 +41,7 @@ impl State {
         self.sum = Sum16BitWords::new();
     }
 
-    // Whether the line is understood.
+    // A value that no byte has is a fault of the list.
     fn set(&mut self, rest: &[u8]) -> Option<bool> {
         let (at, rest) = number(rest);
         let (value, _) = number(rest);
@@ -65,9 +66,8 @@ impl State {
     }
 
     fn check(&mut self, rest: &[u8]) -> bool {
-        let same = summed(self.sum, rest);
-        self.sum = Sum16BitWords::new();
-        same
+        let sum = mem::replace(&mut self.sum, Sum16BitWords::new());
+        summed(sum, rest)
     }
 
     // Does what a line says. Where it is a case, or is not understood, the answer is whether the case came out the same.
@@ -76,7 +76,7 @@ impl State {
         let rest = behind(rest);
         match *letter {
             b'n' => self.begin(rest),
-            b'x' => decode(rest, &mut self.bytes),
+            b'x' => self.bytes.push_hex(rest),
             b'z' => self.bytes.skip(number(rest).0),
             b'b' => return self.set(rest),
             b'1' => return Some(self.frame(rest, Entry::Ethernet)),

@@ -1,7 +1,5 @@
-// The words of a list's lines: numbers, bytes in hexadecimal digits, and answers.
+// The words of a list's lines: numbers, and what a digit or a byte of an answer stands for.
 ghost use Rattle.std.specs.Prelude.{◌<◌};
-
-use crate::buffer::Buffer;
 
 // The text without its first byte.
 pub fn behind(text: &[u8]) -> &[u8] {
@@ -35,27 +33,10 @@ fn digit(c: u8) -> u8
     }
 }
 
-fn pair(high: u8, low: u8) -> u8 {
+pub fn pair(high: u8, low: u8) -> u8 {
     digit(high) * 16 + digit(low)
 }
 
-// Two digits make a byte; spaces may stand between bytes.
-pub fn decode<const N: usize>(text: &[u8], out: &mut Buffer<N>) {
-    for word in text.split(|c| *c == b' ') {
-        for digits in word.chunks_exact(2) {
-            out.push(pair(digits[0], digits[1]));
-        }
-    }
-}
-
-fn unslashed(c: u8) -> u8 {
+pub fn unslashed(c: u8) -> u8 {
     if c == b'/' { b'\n' } else { c }
-}
-
-// An answer of several lines, which stand in a list with slashes between them.
-pub fn lines<const N: usize>(text: &[u8], out: &mut Buffer<N>) {
-    for c in text {
-        out.push(unslashed(*c));
-    }
-    out.push(b'\n');
 }

@@ -13,12 +13,12 @@ use test_cases::Tally;
 
 fn main() {
     io::write_all(1, b"vectors");
-    let mut t = Tally::new();
-    frames::run(&mut t);
-    tired::run(&mut t);
-    sums::run(&mut t);
-    published::run(&mut t);
-    edges_link::run(&mut t);
-    edges_ip::run(&mut t);
-    t.report();
+    let mut tally = Tally::new();
+    frames::run(&mut tally);
+    tired::run(&mut tally);
+    sums::run(&mut tally);
+    published::run(&mut tally);
+    edges_link::run(&mut tally);
+    edges_ip::run(&mut tally);
+    tally.report();
 }

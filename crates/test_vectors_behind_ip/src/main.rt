@@ -9,8 +9,8 @@ use test_cases::Tally;
 
 fn main() {
     io::write_all(1, b"vectors behind IP");
-    let mut t = Tally::new();
-    exts::run(&mut t);
-    transport::run(&mut t);
-    t.report();
+    let mut tally = Tally::new();
+    exts::run(&mut tally);
+    transport::run(&mut tally);
+    tally.report();
 }
