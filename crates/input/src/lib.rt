@@ -7,7 +7,7 @@ use std::io;
 use std::io::Read;
 
 // `Ok`: so many bytes came, and then the input ended or the buffer was full. `Err`: a read failed, and what came before it is not to be
-// taken for the input. An interrupted read failed too: that is why none of the reader's own methods stands here, which try it again.
+// taken for the input. An interrupted read failed too, where the reader's own methods would try again: so the loop stands here.
 pub fn read<R: Read>(from: &mut R, buf: &mut [u8]) -> io::Result<usize>
     ensures { IfOk result (λ k. k ≤ length buf.old) }
 {
