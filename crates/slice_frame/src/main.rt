@@ -4,14 +4,12 @@
 // Its exit status is 0 all the same: bin/slice gives 2 where there is no answer.
 #![tactic(auto)]
 
-ghost use Rattle.std.specs.Prelude.{◌≤◌, ◌≡◌, length, take};
+ghost use Rattle.std.specs.Prelude.{◌≤◌, ◌≡◌, length};
 ghost use Rattle.rules.specs.declared.entry.Entry.TheVariants.{Ethernet};
 ghost use Rattle.printing.specs.Text.{text_of};
 ghost use Rattle.printing.specs.Values.{frame_limit};
 ghost use Rattle.printing.specs.Fits.{text_limit};
 
-use input::Input;
-use printing::Printed;
 use rules::Entry;
 
 // One byte more than a frame may have, so that a longer input shows.
@@ -20,51 +18,32 @@ const ROOM: usize = 65537;
 // `text_limit`: the text of no frame has more bytes, by `text-fits` in printing's specs/Fits.antt.
 const TEXT: usize = 262211;
 
-fn room() -> [u8; ROOM]
-    ensures { 65537 ≡ length result }
+// The whole text of a frame, which is printed into the buffer. Nothing is cut off: `unwrap` is proved.
+fn printed<'a>(frame: &[u8], buffer: &'a mut [u8]) -> &'a [u8]
+    requires frame { length frame.now ≤ frame_limit }
+    requires buffer { length buffer.old ≡ text_limit }
+    ensures { result.now ≡ text_of Ethernet frame.now }
 {
-    [0; ROOM]
+    let len = printing::print(frame, Entry::Ethernet, buffer).unwrap();
+    &buffer[..len]
 }
 
-fn text() -> [u8; TEXT]
-    ensures { text_limit ≡ length result }
-{
-    [0; TEXT]
-}
-
-// Writes the whole text of a frame into `out`, and answers its length. Nothing is cut off.
-fn printed(frame: &[u8], out: &mut [u8; TEXT]) -> usize
-    requires { length frame.now ≤ frame_limit }
-    ensures counted { result ≡ length (text_of Ethernet frame.now) }
-    ensures whole { take result out.new ≡ text_of Ethernet frame.now }
-{
-    let answer = printing::print(frame, Entry::Ethernet, out);
-    match answer {
-        Printed::Whole(len) => len,
-        // The text of no frame is cut.
-        Printed::Cut => 0,
-    }
-}
-
-fn answer(text: &[u8]) {
-    if !io::write_all(1, text) {
-        io::write_all(2, b"slice_frame: standard output can't be written\n");
+fn answer(rt: &(impl Print + Eprint), text: &[u8]) {
+    if rt.write_all(text).is_err() {
+        let _ = eprintln!(rt; "slice_frame: standard output can't be written");
     }
 }
 
 fn main(rt: HostRuntime) {
-    let mut stdin = rt.stdin();
-    let mut frame = room();
-    let input = input::read(&mut stdin, &mut frame);
-    let Input::Came(have) = input else {
-        io::write_all(2, b"slice_frame: standard input can't be read\n");
+    let mut frame = [0; ROOM];
+    let Ok(len) = input::read(&mut rt.stdin(), &mut frame) else {
+        let _ = eprintln!(rt; "slice_frame: standard input can't be read");
         return;
     };
-    if have == ROOM {
-        answer(b"too long\n");
+    if len == ROOM {
+        answer(&rt, b"too long\n");
         return;
     }
-    let mut out = text();
-    let written = printed(&frame[..have], &mut out);
-    answer(&out[..written]);
+    let mut buffer = [0; TEXT];
+    answer(&rt, printed(&frame[..len], &mut buffer));
 }

@@ -7,179 +7,95 @@
 //                have slashes between them; 2 the same as a packet known to be IPv4, 3 as one known to be IPv6
 //   +            the bytes are a slice that is added to the sum, and then there are none
 //   s DIGITS     a case: the sum's checksum and its no-zero form; then the sum is that of nothing
-ghost use Rattle.std.specs.Prelude.{◌≡◌, ◌≤◌, length};
-
+use crate::buffer::Buffer;
 use crate::compare::{not_understood, sliced, summed};
 use crate::tally::Tally;
-use crate::text::{behind, clear, decode, number, push};
+use crate::text::{behind, number};
 use checksum::Sum16BitWords;
 use rules::Entry;
+use std::mem;
 
 // More than the longest packet that a length field can tell of: 40 + 65,535 bytes.
 const ROOM: usize = 65600;
 
-// Between two lines: how many bytes are there, the sum of the slices added, and the count of the cases.
-#[derive(Clone, Copy)]
+// Between two lines: the bytes that are there, and the sum of the slices added.
+#[derive(Drop)]
 struct State {
-    used: usize,
+    bytes: Buffer<ROOM>,
     sum: Sum16BitWords,
-    tally: Tally,
 }
 
-fn room() -> [u8; ROOM]
-    ensures { 65600 ≡ length result }
-{
-    [0; ROOM]
-}
-
-fn named(state: State, name: &[u8], bytes: &mut [u8]) -> State {
-    clear(bytes, state.used);
-    io::write_all(1, b"\n");
-    io::write_all(1, name);
-    io::write_all(1, b":");
-    let tally = state.tally;
-    State {
-        used: 0,
-        sum: Sum16BitWords::new(),
-        tally,
-    }
-}
-
-fn with_used(state: State, used: usize) -> State {
-    let sum = state.sum;
-    let tally = state.tally;
-    State { used, sum, tally }
-}
-
-fn with_tally(state: State, tally: Tally) -> State {
-    let sum = state.sum;
-    State {
-        used: state.used,
-        sum,
-        tally,
-    }
-}
-
-fn faulty(state: State) -> State {
-    let tally = state.tally;
-    with_tally(state, not_understood(tally))
-}
-
-// Behind the buffer's end there is nothing to skip to.
-fn skipped(state: State, rest: &[u8]) -> State {
-    let n = number(rest);
-    let used = state.used;
-    if used < ROOM {
-        if n.value <= ROOM - used {
-            return with_used(state, used + n.value);
+impl State {
+    fn new() -> Self {
+        State {
+            bytes: Buffer::new(),
+            sum: Sum16BitWords::new(),
         }
     }
-    state
-}
 
-fn byte_set(state: State, rest: &[u8], bytes: &mut [u8]) -> State {
-    let at = number(rest);
-    let past = at.past;
-    let value = number(behind(&rest[past..]));
-    if 255 < value.value {
-        return faulty(state);
+    fn begin(&mut self, name: &[u8]) {
+        io::write_all(1, b"\n");
+        io::write_all(1, name);
+        io::write_all(1, b":");
+        self.bytes.clear();
+        self.sum = Sum16BitWords::new();
     }
-    let past_it = push(bytes, at.value, value.value as u8);
-    if state.used < past_it {
-        return with_used(state, past_it);
-    }
-    state
-}
 
-fn frame(state: State, rest: &[u8], bytes: &[u8], entry: Entry) -> State {
-    let len = number(rest);
-    let past = len.past;
-    let answer = behind(&rest[past..]);
-    let tally = state.tally;
-    let counted = sliced(tally, bytes, len.value, entry, answer);
-    with_tally(state, counted)
-}
+    // A value that no byte has is a fault of the list.
+    fn set(&mut self, rest: &[u8]) -> Option<bool> {
+        let (at, rest) = number(rest);
+        let (value, _) = number(rest);
+        let Ok(byte) = u8::try_from(value) else {
+            return Some(not_understood());
+        };
+        self.bytes.set(at, byte);
+        None
+    }
 
-fn added(state: State, bytes: &mut [u8]) -> State {
-    let used = state.used;
-    let sum = state.sum;
-    let tally = state.tally;
-    if bytes.len() < used {
-        return faulty(state);
-    }
-    let more = sum.add_slice(&bytes[..used]);
-    clear(bytes, used);
-    State {
-        used: 0,
-        sum: more,
-        tally,
-    }
-}
-
-fn checked(state: State, rest: &[u8]) -> State {
-    let sum = state.sum;
-    let tally = state.tally;
-    let counted = summed(tally, sum, rest);
-    State {
-        used: state.used,
-        sum: Sum16BitWords::new(),
-        tally: counted,
-    }
-}
-
-fn line(state: State, s: &[u8], bytes: &mut [u8]) -> State {
-    if s.len() == 0 {
-        return state;
-    }
-    let letter = s[0];
-    let rest = behind(behind(s));
-    match letter {
-        b'n' => named(state, rest, bytes),
-        b'x' => {
-            let used = decode(rest, bytes, state.used);
-            with_used(state, used)
+    fn frame(&self, rest: &[u8], entry: Entry) -> bool {
+        let (len, answer) = number(rest);
+        match self.bytes.room().get(..len) {
+            Some(frame) => sliced(frame, entry, answer),
+            None => not_understood(),
         }
-        b'z' => skipped(state, rest),
-        b'b' => byte_set(state, rest, bytes),
-        b'1' => frame(state, rest, bytes, Entry::Ethernet),
-        b'2' => frame(state, rest, bytes, Entry::Ipv4),
-        b'3' => frame(state, rest, bytes, Entry::Ipv6),
-        b'+' => added(state, bytes),
-        b's' => checked(state, rest),
-        _ => faulty(state),
+    }
+
+    fn add(&mut self) {
+        self.sum = self.sum.add_slice(self.bytes.bytes());
+        self.bytes.clear();
+    }
+
+    fn check(&mut self, rest: &[u8]) -> bool {
+        let sum = mem::replace(&mut self.sum, Sum16BitWords::new());
+        summed(sum, rest)
+    }
+
+    // Does what a line says. Where it is a case, or is not understood, the answer is whether the case came out the same.
+    fn line(&mut self, line: &[u8]) -> Option<bool> {
+        let (letter, rest) = line.split_first()?;
+        let rest = behind(rest);
+        match *letter {
+            b'n' => self.begin(rest),
+            b'x' => self.bytes.push_hex(rest),
+            b'z' => self.bytes.skip(number(rest).0),
+            b'b' => return self.set(rest),
+            b'1' => return Some(self.frame(rest, Entry::Ethernet)),
+            b'2' => return Some(self.frame(rest, Entry::Ipv4)),
+            b'3' => return Some(self.frame(rest, Entry::Ipv6)),
+            b'+' => self.add(),
+            b's' => return Some(self.check(rest)),
+            _ => return Some(not_understood()),
+        }
+        None
     }
 }
 
-// Where the line that begins at `from` ends.
-fn line_end(s: &[u8], from: usize) -> usize
-    requires { from ≤ length s.now }
-    ensures { (from ≤ result) × (result ≤ length s.now) }
-{
-    let mut i = from;
-    while i < s.len() {
-        if s[i] == b'\n' {
-            return i;
+// Runs a list: every case is printed and counted.
+pub fn run(tally: &mut Tally, list: &[u8]) {
+    let mut state = State::new();
+    for line in list.split(|c| *c == b'\n') {
+        if let Some(same) = state.line(line) {
+            *tally = tally.counted(same);
         }
-        i += 1;
     }
-    i
-}
-
-pub fn run(t: Tally, list: &[u8]) -> Tally {
-    let mut bytes = room();
-    let mut state = State {
-        used: 0,
-        sum: Sum16BitWords::new(),
-        tally: t,
-    };
-    let mut at: usize = 0;
-    while at < list.len() {
-        let end = line_end(list, at);
-        state = line(state, &list[at..end], &mut bytes);
-        if end == list.len() {
-            break;
-        }
-        at = end + 1;
-    }
-    state.tally
 }

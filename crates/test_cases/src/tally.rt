@@ -23,16 +23,12 @@ impl Tally {
         ensures { result ≡ tallied self same }
     {
         let compared = self.compared.wrapping_add(1);
-        if same {
-            return Tally {
-                compared,
-                same: self.same.wrapping_add(1),
-            };
-        }
-        Tally {
-            compared,
-            same: self.same,
-        }
+        let same = if same {
+            self.same.wrapping_add(1)
+        } else {
+            self.same
+        };
+        Tally { compared, same }
     }
 
     // A program's last line.

@@ -4,33 +4,27 @@
 // Where a read fails there is nothing to report, and standard error says so.
 #![tactic(auto)]
 
-ghost use Rattle.std.specs.Prelude.{ℕ, ◌≤◌, ◌≡◌, length};
-ghost use Rattle.test_replay.specs.declared.Part.TheVariants.{Is};
-
-use input::Input;
 use rules::Entry;
 use std::io::Read;
+use std::{fmt, io};
+use test_cases::Tally;
 
 // So many cases are compared; where the list goes on, that is told.
 const MOST: usize = 65_536;
 
-// What comes next on standard input: a case, whose answer is the same or differs; the list's end; the begin of a case, not whole; or a
-// read failed.
-#[derive(Clone, Copy)]
-enum Next {
-    Compared(bool),
-    End,
+// What is said of a case has no more bytes than this: of its frame, and of its answer.
+const ROOM: usize = 4096;
+
+// Why no case could be read where one begins: it is not whole, or longer than the room; or a read failed.
+enum Broken {
     Cut,
-    Failed,
+    Failed(io::Error),
 }
 
-// A part of a case: its bytes are the first so many of the room; or they aren't all there, or are more than the room has; or a read
-// failed.
-#[derive(Clone, Copy)]
-enum Part {
-    Is(usize),
-    Cut,
-    Failed,
+impl From<io::Error> for Broken {
+    fn from(error: io::Error) -> Broken {
+        Broken::Failed(error)
+    }
 }
 
 // How a list ended: behind its last case, inside a case, or not where the comparison did.
@@ -41,202 +35,125 @@ enum End {
     On,
 }
 
-// What was seen of a list. `first` is the number of the first case that differs, from 1, and 0 where none does.
+impl fmt::Display for End {
+    fn fmt<W: fmt::Write>(&self, f: &mut fmt::Formatter<W>) -> fmt::Result {
+        match self {
+            End::Whole => write!(f, "the list is whole"),
+            End::Cut => write!(f, "the list is cut: a case follows that is not whole"),
+            End::On => write!(f, "the list may go on"),
+        }
+    }
+}
+
+// What was seen of a list. `first` is the number of the first case that differs, from 1.
 #[derive(Clone, Copy)]
 struct Seen {
-    compared: usize,
-    same: usize,
-    first: usize,
+    tally: Tally,
+    first: Option<u64>,
     end: End,
 }
 
-#[derive(Clone, Copy)]
-enum Replayed {
-    Seen(Seen),
-    Failed,
+impl Seen {
+    fn count(&mut self, same: bool) {
+        self.tally = self.tally.counted(same);
+        if !same {
+            self.first = self.first.or(Some(self.tally.compared));
+        }
+    }
+
+    fn report(&self, rt: &impl Print) -> io::Result<()> {
+        println!(rt; "cases compared: {}", self.tally.compared)?;
+        println!(rt; "the same: {}", self.tally.same)?;
+        match self.first {
+            Some(first) => println!(rt; "first different case: {first}")?,
+            None => println!(rt; "first different case: none")?,
+        }
+        println!(rt; "{}", self.end)
+    }
 }
 
-// A call, because an argument of type u8 is known to be below 256.
-fn word_of(high: u8, low: u8) -> usize {
-    high as usize * 256 + low as usize
-}
-
-// An entry that is none of the three makes a case that differs: the other slicer wrote no such case.
-fn same_at(number: u8, frame: &[u8], answer: &[u8]) -> bool {
+// The entry by its number in the list. A function, because a `TryFrom` of `Entry` could stand only in its own crate.
+fn entry_of(number: u8) -> Option<Entry> {
     match number {
-        1 => test_cases::agrees(frame, Entry::Ethernet, answer),
-        2 => test_cases::agrees(frame, Entry::Ipv4, answer),
-        3 => test_cases::agrees(frame, Entry::Ipv6, answer),
-        _ => false,
+        1 => Some(Entry::Ethernet),
+        2 => Some(Entry::Ipv4),
+        3 => Some(Entry::Ipv6),
+        _ => None,
     }
 }
 
-// Reads n bytes. Where the room has fewer, nothing is read.
-fn filled<R: Read>(list: &mut R, room: &mut [u8], n: usize) -> Part
-    ensures { (k : ℕ) → result ≡ Is k → k ≤ length room.old }
-{
-    if room.len() < n {
-        return Part::Cut;
+// Fills a part of a case.
+fn fill<R: Read>(list: &mut R, part: &mut [u8]) -> Result<(), Broken> {
+    let len = input::read(list, part)?;
+    if len < part.len() {
+        return Err(Broken::Cut);
     }
-    let from: usize = 0;
-    let input = input::read(list, &mut room[from..n]);
-    match input {
-        Input::Came(have) => {
-            if have == n {
-                return Part::Is(n);
-            }
-            Part::Cut
-        }
-        Input::Failed => Part::Failed,
-    }
+    Ok(())
 }
 
-// Reads bytes whose number stands before them, in two bytes.
-fn counted<R: Read>(list: &mut R, room: &mut [u8]) -> Part
-    ensures { (k : ℕ) → result ≡ Is k → k ≤ length room.old }
-{
-    if room.len() < 2 {
-        return Part::Cut;
-    }
-    let head = filled(list, room, 2);
-    match head {
-        Part::Is(_) => {
-            let len = word_of(room[0], room[1]);
-            filled(list, room, len)
-        }
-        Part::Cut => Part::Cut,
-        Part::Failed => Part::Failed,
-    }
-}
-
-// A case without one of its parts.
-fn broken(part: Part) -> Next {
-    match part {
-        Part::Is(_) => Next::Cut,
-        Part::Cut => Next::Cut,
-        Part::Failed => Next::Failed,
-    }
-}
-
-// Reads a case behind its number and compares it: no list is ever held as a whole, so the program needs little room.
-fn case<R: Read>(list: &mut R, number: u8) -> Next {
-    let mut frame = io::buffer();
-    let mut answer = io::buffer();
-    let framed = counted(list, &mut frame);
-    let Part::Is(frame_len) = framed else {
-        return broken(framed);
+// Reads bytes whose number stands before them, in two bytes. Where the room has fewer, none of them is read.
+fn counted<'a, R: Read>(list: &mut R, room: &'a mut [u8; ROOM]) -> Result<&'a [u8], Broken> {
+    let mut head = [0; 2];
+    fill(list, &mut head)?;
+    let len = usize::from(u16::from_be_bytes(head));
+    let Some(part) = room.get_mut(..len) else {
+        return Err(Broken::Cut);
     };
-    let answered = counted(list, &mut answer);
-    let Part::Is(answer_len) = answered else {
-        return broken(answered);
+    fill(list, part)?;
+    Ok(part)
+}
+
+// Reads a case behind its number, and answers whether it is the same: no list is ever held as a whole, so the program needs little room.
+// An entry that is none of the three makes a case that differs: the other slicer wrote no such case.
+fn case<R: Read>(list: &mut R, number: u8) -> Result<bool, Broken> {
+    let mut frame = [0; ROOM];
+    let mut answer = [0; ROOM];
+    let frame = counted(list, &mut frame)?;
+    let answer = counted(list, &mut answer)?;
+    let Some(entry) = entry_of(number) else {
+        return Ok(false);
     };
-    Next::Compared(same_at(number, &frame[..frame_len], &answer[..answer_len]))
+    Ok(test_cases::agrees(frame, entry, answer))
 }
 
-fn next_case<R: Read>(list: &mut R) -> Next {
-    let mut number = [0u8; 1];
-    let input = input::read(list, &mut number);
-    match input {
-        Input::Came(have) => {
-            if have == 0 {
-                return Next::End;
-            }
-            case(list, number[0])
-        }
-        Input::Failed => Next::Failed,
+// Nothing at the list's end.
+fn next_case<R: Read>(list: &mut R) -> Result<Option<bool>, Broken> {
+    let mut number = [0; 1];
+    if input::read(list, &mut number)? == 0 {
+        return Ok(None);
     }
+    Ok(Some(case(list, number[0])?))
 }
 
-fn so_far(compared: usize, same: usize, first: usize, end: End) -> Replayed {
-    Replayed::Seen(Seen {
-        compared,
-        same,
-        first,
-        end,
-    })
-}
-
-fn compare<R: Read>(list: &mut R) -> Replayed {
-    let mut compared: usize = 0;
-    let mut same: usize = 0;
-    let mut first: usize = 0;
-    while compared < MOST {
-        let next = next_case(list);
-        match next {
-            Next::End => {
-                return so_far(compared, same, first, End::Whole);
+fn compare<R: Read>(list: &mut R) -> io::Result<Seen> {
+    let mut seen = Seen {
+        tally: Tally::new(),
+        first: None,
+        end: End::On,
+    };
+    for _ in 0..MOST {
+        match next_case(list) {
+            Ok(Some(same)) => seen.count(same),
+            Ok(None) => {
+                seen.end = End::Whole;
+                break;
             }
-            Next::Cut => {
-                return so_far(compared, same, first, End::Cut);
+            Err(Broken::Cut) => {
+                seen.end = End::Cut;
+                break;
             }
-            Next::Failed => {
-                return Replayed::Failed;
-            }
-            Next::Compared(agrees) => {
-                compared += 1;
-                if agrees {
-                    same += 1;
-                } else if first == 0 {
-                    first = compared;
-                }
-            }
+            Err(Broken::Failed(error)) => return Err(error),
         }
     }
-    so_far(compared, same, first, End::On)
-}
-
-fn line(text: &[u8], n: usize) -> bool {
-    if !io::write_all(1, text) {
-        return false;
-    }
-    let wide = n as u64;
-    if !io::print_decimal(1, wide) {
-        return false;
-    }
-    io::write_all(1, b"\n")
-}
-
-fn different(first: usize) -> bool {
-    if first == 0 {
-        return io::write_all(1, b"first different case: none\n");
-    }
-    line(b"first different case: ", first)
-}
-
-fn ending(end: End) -> bool {
-    match end {
-        End::Whole => io::write_all(1, b"the list is whole\n"),
-        End::Cut => io::write_all(1, b"the list is cut: a case follows that is not whole\n"),
-        End::On => io::write_all(1, b"the list may go on\n"),
-    }
-}
-
-// Whether all of it was written.
-fn report(seen: Seen) -> bool {
-    let end = seen.end;
-    if !line(b"cases compared: ", seen.compared) {
-        return false;
-    }
-    if !line(b"the same: ", seen.same) {
-        return false;
-    }
-    if !different(seen.first) {
-        return false;
-    }
-    ending(end)
+    Ok(seen)
 }
 
 fn main(rt: HostRuntime) {
-    let mut stdin = rt.stdin();
-    let replayed = compare(&mut stdin);
-    match replayed {
-        Replayed::Seen(seen) => {
-            if !report(seen) {
-                io::write_all(2, b"test_replay: standard output can't be written\n");
-            }
-        }
-        Replayed::Failed => {
-            io::write_all(2, b"test_replay: standard input can't be read\n");
-        }
+    let Ok(seen) = compare(&mut rt.stdin()) else {
+        let _ = eprintln!(rt; "test_replay: standard input can't be read");
+        return;
+    };
+    if seen.report(&rt).is_err() {
+        let _ = eprintln!(rt; "test_replay: standard output can't be written");
     }
 }

@@ -1,10 +1,7 @@
 // The tests of the IPv4 and IPv6 headers: one short, exact, one long, at both ways to each; their versions, and the bits of IPv4 fragments.
 use test_cases::Tally;
 
-fn ipv4_behind_ethernet(t: Tally) -> Tally {
-    test_cases::run(
-        t,
-        b"n IPv4 header, Ethernet
+const IPV4_BEHIND_ETHERNET: &[u8] = b"n IPv4 header, Ethernet
 z 12
 x 0800 45000014 00000000 403b0000
 z 8
@@ -53,14 +50,9 @@ b 14 68
 b 14 69
 1 38 ethernet2 0 14/ipv4 14 20/payload 34 4/stop 4
 b 14 70
-1 38 ethernet2 0 14/ipv4 14 24/payload 38 0/stop 4",
-    )
-}
+1 38 ethernet2 0 14/ipv4 14 24/payload 38 0/stop 4";
 
-fn ipv4_entry(t: Tally) -> Tally {
-    test_cases::run(
-        t,
-        b"n IPv4 header, IPv4 entry
+const IPV4_ENTRY: &[u8] = b"n IPv4 header, IPv4 entry
 x 45000014 00000000 403b0000
 z 8
 2 19 refused 1 ipv4 0 required 20 have 19 source slice
@@ -104,14 +96,9 @@ b 0 68
 b 0 69
 2 24 ipv4 0 20/payload 20 4/stop 4
 b 0 70
-2 24 ipv4 0 24/payload 24 0/stop 4",
-    )
-}
+2 24 ipv4 0 24/payload 24 0/stop 4";
 
-fn ipv6_behind_ethernet(t: Tally) -> Tally {
-    test_cases::run(
-        t,
-        b"n IPv6 header, Ethernet
+const IPV6_BEHIND_ETHERNET: &[u8] = b"n IPv6 header, Ethernet
 z 12
 x 86dd 60000000 00003b40
 z 32
@@ -137,14 +124,9 @@ b 19 0
 b 19 1
 1 55 ethernet2 0 14/ipv6 14 40/payload 54 1/stop 4
 b 19 2
-1 55 refused 1 ipv6-packet 14 required 42 have 41 source slice",
-    )
-}
+1 55 refused 1 ipv6-packet 14 required 42 have 41 source slice";
 
-fn ipv6_entry(t: Tally) -> Tally {
-    test_cases::run(
-        t,
-        b"n IPv6 header, IPv6 entry
+const IPV6_ENTRY: &[u8] = b"n IPv6 header, IPv6 entry
 x 60000000 00003b40
 z 32
 3 39 refused 1 ipv6 0 required 40 have 39 source slice
@@ -167,14 +149,9 @@ b 5 0
 b 5 1
 3 41 ipv6 0 40/payload 40 1/stop 4
 b 5 2
-3 41 refused 1 ipv6-packet 0 required 42 have 41 source slice",
-    )
-}
+3 41 refused 1 ipv6-packet 0 required 42 have 41 source slice";
 
-fn longest_packets(t: Tally) -> Tally {
-    test_cases::run(
-        t,
-        b"n the longest IPv4 packet
+const LONGEST_PACKETS: &[u8] = b"n the longest IPv4 packet
 x 4500ffff 00000000 403b0000
 z 8
 2 65534 refused 1 ipv4-packet 0 required 65535 have 65534 source slice
@@ -185,14 +162,9 @@ x 60000000 ffff3b40
 z 32
 3 65574 refused 1 ipv6-packet 0 required 65575 have 65574 source slice
 3 65575 ipv6 0 40/payload 40 65535/stop 4
-3 65576 ipv6 0 40/payload 40 65535/stop 4",
-    )
-}
+3 65576 ipv6 0 40/payload 40 65535/stop 4";
 
-fn first_bytes(t: Tally) -> Tally {
-    test_cases::run(
-        t,
-        b"n IPv4 versions
+const FIRST_BYTES: &[u8] = b"n IPv4 versions
 x 45000014 00000000 403b0000
 z 8
 b 0 53
@@ -225,15 +197,18 @@ b 6 31
 b 6 192
 2 28 ipv4 0 20/udp 20 8/payload 28 0/stop 5
 b 7 1
-2 28 ipv4 0 20/payload 20 8/stop 3",
-    )
-}
+2 28 ipv4 0 20/payload 20 8/stop 3";
 
-pub fn run(t: Tally) -> Tally {
-    let t = ipv4_behind_ethernet(t);
-    let t = ipv4_entry(t);
-    let t = ipv6_behind_ethernet(t);
-    let t = ipv6_entry(t);
-    let t = longest_packets(t);
-    first_bytes(t)
+pub fn run(tally: &mut Tally) {
+    let lists = [
+        IPV4_BEHIND_ETHERNET,
+        IPV4_ENTRY,
+        IPV6_BEHIND_ETHERNET,
+        IPV6_ENTRY,
+        LONGEST_PACKETS,
+        FIRST_BYTES,
+    ];
+    for list in lists {
+        test_cases::run(tally, list);
+    }
 }

@@ -1,10 +1,7 @@
 // The length tests of the link headers, and of IP headers behind tags: a byte short, exact, a byte long.
 use test_cases::Tally;
 
-fn tags(t: Tally) -> Tally {
-    test_cases::run(
-        t,
-        b"n Ethernet header
+const TAGS: &[u8] = b"n Ethernet header
 z 12
 x 0806
 1 13 refused 1 ethernet2 0 required 14 have 13 source slice
@@ -30,14 +27,9 @@ x 9100 0000 88a8 0000 8100 0000 8100 0000 0806
 1 27 ethernet2 0 14/vlan 14 4/vlan 18 4/vlan 22 4/payload 26 1/stop 2
 1 29 ethernet2 0 14/vlan 14 4/vlan 18 4/vlan 22 4/payload 26 3/stop 2
 1 30 ethernet2 0 14/vlan 14 4/vlan 18 4/vlan 22 4/payload 26 4/stop 2
-1 31 ethernet2 0 14/vlan 14 4/vlan 18 4/vlan 22 4/payload 26 5/stop 2",
-    )
-}
+1 31 ethernet2 0 14/vlan 14 4/vlan 18 4/vlan 22 4/payload 26 5/stop 2";
 
-fn packets_behind_tags(t: Tally) -> Tally {
-    test_cases::run(
-        t,
-        b"n IPv4 behind one tag
+const PACKETS_BEHIND_TAGS: &[u8] = b"n IPv4 behind one tag
 z 12
 x 8100 0000 0800 45000014 00000000 403b0000
 z 8
@@ -57,11 +49,11 @@ x 88a8 0000 8100 0000 86dd 60000000 00003b40
 z 32
 1 61 refused 1 ipv6 22 required 40 have 39 source slice
 1 62 ethernet2 0 14/vlan 14 4/vlan 18 4/ipv6 22 40/payload 62 0/stop 4
-1 63 ethernet2 0 14/vlan 14 4/vlan 18 4/ipv6 22 40/payload 62 1/stop 4",
-    )
-}
+1 63 ethernet2 0 14/vlan 14 4/vlan 18 4/ipv6 22 40/payload 62 1/stop 4";
 
-pub fn run(t: Tally) -> Tally {
-    let t = tags(t);
-    packets_behind_tags(t)
+pub fn run(tally: &mut Tally) {
+    let lists = [TAGS, PACKETS_BEHIND_TAGS];
+    for list in lists {
+        test_cases::run(tally, list);
+    }
 }

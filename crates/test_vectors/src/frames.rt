@@ -1,10 +1,7 @@
 // Document 01's frames, with the answers as it has them. Bytes that it leaves free are zero.
 use test_cases::Tally;
 
-fn link(t: Tally) -> Tally {
-    test_cases::run(
-        t,
-        b"n F1
+const LINK: &[u8] = b"n F1
 z 12
 x 0806
 1 13 refused 1 ethernet2 0 required 14 have 13 source slice
@@ -16,14 +13,9 @@ x 8100 0000 8100 0000 8100 0000 8100
 n F3
 z 12
 x 8100 0000 8100
-1 21 refused 1 vlan 18 required 4 have 3 source slice",
-    )
-}
+1 21 refused 1 vlan 18 required 4 have 3 source slice";
 
-fn network(t: Tally) -> Tally {
-    test_cases::run(
-        t,
-        b"n F4
+const NETWORK: &[u8] = b"n F4
 z 12
 x 0800 45000013 00000000 00000000
 z 8
@@ -52,15 +44,10 @@ x 0800 45000020 00000000 00330000
 z 8
 1 46 refused 6 auth 34
 b 17 31
-1 46 refused 1 auth 34 required 12 have 11 source ipv4",
-    )
-}
+1 46 refused 1 auth 34 required 12 have 11 source ipv4";
 
 // Document 01 names no IP version for F8 and F9: each stands here over both.
-fn transport(t: Tally) -> Tally {
-    test_cases::run(
-        t,
-        b"n F8 over IPv4
+const TRANSPORT: &[u8] = b"n F8 over IPv4
 z 12
 x 0800 4500001c 00000000 00110000
 z 8
@@ -93,15 +80,10 @@ z 12
 x 40
 1 74 refused 7 tcp 54 4
 b 66 96
-1 74 refused 1 tcp 54 required 24 have 20 source ipv6",
-    )
-}
+1 74 refused 1 tcp 54 required 24 have 20 source ipv6";
 
 // F12, the 60-byte line, and the empty input.
-fn whole_texts(t: Tally) -> Tally {
-    test_cases::run(
-        t,
-        b"n F12
+const WHOLE_TEXTS: &[u8] = b"n F12
 z 12
 x 8100 0000 0800 45000020 00000000 00110000
 z 8
@@ -115,13 +97,11 @@ z 8
 n no bytes
 1 0 refused 1 ethernet2 0 required 14 have 0 source slice
 2 0 refused 1 ipv4 0 required 20 have 0 source slice
-3 0 refused 1 ipv6 0 required 40 have 0 source slice",
-    )
-}
+3 0 refused 1 ipv6 0 required 40 have 0 source slice";
 
-pub fn run(t: Tally) -> Tally {
-    let t = link(t);
-    let t = network(t);
-    let t = transport(t);
-    whole_texts(t)
+pub fn run(tally: &mut Tally) {
+    let lists = [LINK, NETWORK, TRANSPORT, WHOLE_TEXTS];
+    for list in lists {
+        test_cases::run(tally, list);
+    }
 }

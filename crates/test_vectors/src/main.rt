@@ -13,11 +13,12 @@ use test_cases::Tally;
 
 fn main() {
     io::write_all(1, b"vectors");
-    let t = frames::run(Tally::new());
-    let t = tired::run(t);
-    let t = sums::run(t);
-    let t = published::run(t);
-    let t = edges_link::run(t);
-    let t = edges_ip::run(t);
-    t.report();
+    let mut tally = Tally::new();
+    frames::run(&mut tally);
+    tired::run(&mut tally);
+    sums::run(&mut tally);
+    published::run(&mut tally);
+    edges_link::run(&mut tally);
+    edges_ip::run(&mut tally);
+    tally.report();
 }

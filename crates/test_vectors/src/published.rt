@@ -3,10 +3,7 @@ use test_cases::Tally;
 
 // RFC 791, appendix A: a datagram with 1 byte of data, one with 452, its two fragments, and one with 12 bytes of options. The appendix
 // leaves the data open; where the protocol is 6, a TCP header of 20 bytes stands there.
-fn rfc_791(t: Tally) -> Tally {
-    test_cases::run(
-        t,
-        b"n RFC 791, example 1
+const RFC_791: &[u8] = b"n RFC 791, example 1
 x 45000015 006f0000 7b010000
 2 21 ipv4 0 20/payload 20 1/stop 4
 n RFC 791, example 2
@@ -28,15 +25,10 @@ n RFC 791, example 3
 x 48000240 006f0000 7b060000
 z 8
 x 88030088 04000001 89030000 00500050 00000000 00000000 50020000 00000000
-2 576 ipv4 0 32/tcp 32 20/payload 52 524/stop 5",
-    )
-}
+2 576 ipv4 0 32/tcp 32 20/payload 52 524/stop 5";
 
 // Packets of the total length that each header has, with a header of its protocol behind it.
-fn worked_examples(t: Tally) -> Tally {
-    test_cases::run(
-        t,
-        b"n Wikipedia, the packet
+const WORKED_EXAMPLES: &[u8] = b"n Wikipedia, the packet
 x 4500 0073 0000 4000 4011 b861 c0a8 0001 c0a8 00c7 00350035 005f0000
 2 115 ipv4 0 20/udp 20 8/payload 28 87/stop 5
 n The Geek Stuff, the packet
@@ -44,11 +36,11 @@ x 4500 003c 1c46 4000 4006 b1e6 ac10 0a63 ac10 0a0c 00500050 00000000 00000000 a
 2 60 ipv4 0 20/tcp 20 40/payload 60 0/stop 5
 n Forouzan, the packet
 x 4500 001c 0001 0000 0411 8bb1 0a0c 0e05 0c06 0709 00350035 00080000
-2 28 ipv4 0 20/udp 20 8/payload 28 0/stop 5",
-    )
-}
+2 28 ipv4 0 20/udp 20 8/payload 28 0/stop 5";
 
-pub fn run(t: Tally) -> Tally {
-    let t = rfc_791(t);
-    worked_examples(t)
+pub fn run(tally: &mut Tally) {
+    let lists = [RFC_791, WORKED_EXAMPLES];
+    for list in lists {
+        test_cases::run(tally, list);
+    }
 }

@@ -3,10 +3,7 @@ use test_cases::Tally;
 
 // Document 01, F10. RFC 1071, section 3: the sum ddf2, the swapped order f2dd, and the two groups f201 and f0eb, of which the second
 // begins at an odd byte; the answers are the complements.
-fn rfc_1071(t: Tally) -> Tally {
-    test_cases::run(
-        t,
-        b"n F10
+const RFC_1071: &[u8] = b"n F10
 x 0001 f203 f4f5 f6f7
 +
 s 220d 220d
@@ -27,15 +24,10 @@ x 0001 f2
 s 0dfe 0dfe
 x 03f4 f5f6 f7
 +
-s 0f14 0f14",
-    )
-}
+s 0f14 0f14";
 
 // RFC 1624, section 4: the other words of a header sum to cd7a, and a field changes from 5555 to 3285.
-fn rfc_1624(t: Tally) -> Tally {
-    test_cases::run(
-        t,
-        b"n RFC 1624
+const RFC_1624: &[u8] = b"n RFC 1624
 x cd7a
 +
 x 5555
@@ -45,17 +37,12 @@ x cd7a
 +
 x 3285
 +
-s 0000 ffff",
-    )
-}
+s 0000 ffff";
 
 // IPv4 headers, each with a zero checksum and then with its own, over which the answer is 0: those of the English Wikipedia, "Internet
 // checksum"; of The Geek Stuff, "How to Calculate IP Header Checksum (With an Example)"; and of B. Forouzan, "Data Communications and
 // Networking", in the section on the IPv4 header checksum.
-fn headers(t: Tally) -> Tally {
-    test_cases::run(
-        t,
-        b"n Wikipedia
+const HEADERS: &[u8] = b"n Wikipedia
 x 4500 0073 0000 4000 4011 0000 c0a8 0001 c0a8 00c7
 +
 s b861 b861
@@ -75,15 +62,10 @@ x 4500 001c 0001 0000 0411 0000 0a0c 0e05 0c06 0709
 s 8bb1 8bb1
 x 4500 001c 0001 0000 0411 8bb1 0a0c 0e05 0c06 0709
 +
-s 0000 ffff",
-    )
-}
+s 0000 ffff";
 
 // Carries at the edges of the fold, and odd slices.
-fn carries(t: Tally) -> Tally {
-    test_cases::run(
-        t,
-        b"n carries
+const CARRIES: &[u8] = b"n carries
 x ffff ffff
 +
 s 0000 ffff
@@ -111,13 +93,11 @@ x 0102 03
 +
 x 04
 +
-s f7fd f7fd",
-    )
-}
+s f7fd f7fd";
 
-pub fn run(t: Tally) -> Tally {
-    let t = rfc_1071(t);
-    let t = rfc_1624(t);
-    let t = headers(t);
-    carries(t)
+pub fn run(tally: &mut Tally) {
+    let lists = [RFC_1071, RFC_1624, HEADERS, CARRIES];
+    for list in lists {
+        test_cases::run(tally, list);
+    }
 }

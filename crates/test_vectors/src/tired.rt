@@ -1,10 +1,7 @@
 // Document 01's "Errors a tired hand makes": an input for each, whose answer the error changes.
 use test_cases::Tally;
 
-fn headers(t: Tally) -> Tally {
-    test_cases::run(
-        t,
-        b"n padding taken as samples
+const HEADERS: &[u8] = b"n padding taken as samples
 z 12
 x 0800 45000020 00000000 40110000
 z 8
@@ -22,14 +19,9 @@ z 12
 x 8100 0000 8100 0000 8100 0000 88a8 0000 0800 45000014 00000000 403b0000
 z 8
 1 26 ethernet2 0 14/vlan 14 4/vlan 18 4/vlan 22 4/payload 26 0/stop 2
-1 50 ethernet2 0 14/vlan 14 4/vlan 18 4/vlan 22 4/payload 26 24/stop 2",
-    )
-}
+1 50 ethernet2 0 14/vlan 14 4/vlan 18 4/vlan 22 4/payload 26 24/stop 2";
 
-fn extensions(t: Tally) -> Tally {
-    test_cases::run(
-        t,
-        b"n the mark cleared by a later fragment header
+const EXTENSIONS: &[u8] = b"n the mark cleared by a later fragment header
 z 12
 x 86dd 60000000 00182c40
 z 32
@@ -54,14 +46,9 @@ z 32
 x 1104
 z 22
 x 00350035 00080000
-1 86 ethernet2 0 14/ipv6 14 40/auth 54 24/udp 78 8/payload 86 0/stop 5",
-    )
-}
+1 86 ethernet2 0 14/ipv6 14 40/auth 54 24/udp 78 8/payload 86 0/stop 5";
 
-fn sums(t: Tally) -> Tally {
-    test_cases::run(
-        t,
-        b"n F11, odd slices joined without padding
+const SUMS: &[u8] = b"n F11, odd slices joined without padding
 x 01
 +
 x 02
@@ -69,12 +56,11 @@ x 02
 s fcff fcff
 x 0102
 +
-s fefd fefd",
-    )
-}
+s fefd fefd";
 
-pub fn run(t: Tally) -> Tally {
-    let t = headers(t);
-    let t = extensions(t);
-    sums(t)
+pub fn run(tally: &mut Tally) {
+    let lists = [HEADERS, EXTENSIONS, SUMS];
+    for list in lists {
+        test_cases::run(tally, list);
+    }
 }

@@ -1,10 +1,7 @@
 // The tests of the extension headers: one short, exact, one long, in rooms that a length field ends and in rooms that the slice ends.
 use test_cases::Tally;
 
-fn hop_by_hop(t: Tally) -> Tally {
-    test_cases::run(
-        t,
-        b"n hop-by-hop, room by payload length
+const HOP_BY_HOP: &[u8] = b"n hop-by-hop, room by payload length
 z 12
 x 86dd 60000000 00080040
 z 32
@@ -34,14 +31,9 @@ z 6
 b 41 1
 3 55 refused 1 hop-by-hop 40 required 16 have 15 source slice
 3 56 ipv6 0 40/hop-by-hop 40 16/payload 56 0/stop 4
-3 57 ipv6 0 40/hop-by-hop 40 16/payload 56 1/stop 4",
-    )
-}
+3 57 ipv6 0 40/hop-by-hop 40 16/payload 56 1/stop 4";
 
-fn routing(t: Tally) -> Tally {
-    test_cases::run(
-        t,
-        b"n routing, room by payload length
+const ROUTING: &[u8] = b"n routing, room by payload length
 z 12
 x 86dd 60000000 00082b40
 z 32
@@ -71,14 +63,9 @@ z 6
 b 41 1
 3 55 refused 1 routing 40 required 16 have 15 source slice
 3 56 ipv6 0 40/routing 40 16/payload 56 0/stop 4
-3 57 ipv6 0 40/routing 40 16/payload 56 1/stop 4",
-    )
-}
+3 57 ipv6 0 40/routing 40 16/payload 56 1/stop 4";
 
-fn destination(t: Tally) -> Tally {
-    test_cases::run(
-        t,
-        b"n destination, room by payload length
+const DESTINATION: &[u8] = b"n destination, room by payload length
 z 12
 x 86dd 60000000 00083c40
 z 32
@@ -108,14 +95,9 @@ z 6
 b 41 1
 3 55 refused 1 destination 40 required 16 have 15 source slice
 3 56 ipv6 0 40/destination 40 16/payload 56 0/stop 4
-3 57 ipv6 0 40/destination 40 16/payload 56 1/stop 4",
-    )
-}
+3 57 ipv6 0 40/destination 40 16/payload 56 1/stop 4";
 
-fn chains(t: Tally) -> Tally {
-    test_cases::run(
-        t,
-        b"n a length byte of 255
+const CHAINS: &[u8] = b"n a length byte of 255
 x 60000000 00003c40
 z 32
 x 3b00
@@ -141,14 +123,9 @@ x 3b000000
 z 4
 3 55 refused 1 fragment 48 required 8 have 7 source slice
 3 56 ipv6 0 40/routing 40 8/fragment 48 8/payload 56 0/stop 4
-3 57 ipv6 0 40/routing 40 8/fragment 48 8/payload 56 1/stop 4",
-    )
-}
+3 57 ipv6 0 40/routing 40 8/fragment 48 8/payload 56 1/stop 4";
 
-fn fragment(t: Tally) -> Tally {
-    test_cases::run(
-        t,
-        b"n fragment, room by payload length
+const FRAGMENT: &[u8] = b"n fragment, room by payload length
 z 12
 x 86dd 60000000 00082c40
 z 32
@@ -185,14 +162,9 @@ b 43 7
 b 43 8
 3 56 ipv6 0 40/fragment 40 8/payload 48 8/stop 3
 b 43 9
-3 56 ipv6 0 40/fragment 40 8/payload 48 8/stop 3",
-    )
-}
+3 56 ipv6 0 40/fragment 40 8/payload 48 8/stop 3";
 
-fn auth(t: Tally) -> Tally {
-    test_cases::run(
-        t,
-        b"n AUTH, room by payload length
+const AUTH: &[u8] = b"n AUTH, room by payload length
 z 12
 x 86dd 60000000 000c3340
 z 32
@@ -247,14 +219,9 @@ x 3b01
 z 10
 3 63 refused 1 auth 52 required 12 have 11 source slice
 3 64 ipv6 0 40/auth 40 12/auth 52 12/payload 64 0/stop 4
-3 65 ipv6 0 40/auth 40 12/auth 52 12/payload 64 1/stop 4",
-    )
-}
+3 65 ipv6 0 40/auth 40 12/auth 52 12/payload 64 1/stop 4";
 
-fn auth_in_ipv4(t: Tally) -> Tally {
-    test_cases::run(
-        t,
-        b"n AUTH in IPv4, Ethernet
+const AUTH_IN_IPV4: &[u8] = b"n AUTH in IPv4, Ethernet
 z 12
 x 0800 45000020 00000000 40330000
 z 8
@@ -311,16 +278,19 @@ x 3b01
 z 10
 2 43 refused 1 ipv4-packet 0 required 44 have 43 source slice
 2 44 ipv4 0 20/auth 20 12/payload 32 12/stop 4
-2 45 ipv4 0 20/auth 20 12/payload 32 12/stop 4",
-    )
-}
+2 45 ipv4 0 20/auth 20 12/payload 32 12/stop 4";
 
-pub fn run(t: Tally) -> Tally {
-    let t = hop_by_hop(t);
-    let t = routing(t);
-    let t = destination(t);
-    let t = chains(t);
-    let t = fragment(t);
-    let t = auth(t);
-    auth_in_ipv4(t)
+pub fn run(tally: &mut Tally) {
+    let lists = [
+        HOP_BY_HOP,
+        ROUTING,
+        DESTINATION,
+        CHAINS,
+        FRAGMENT,
+        AUTH,
+        AUTH_IN_IPV4,
+    ];
+    for list in lists {
+        test_cases::run(tally, list);
+    }
 }

@@ -9,7 +9,8 @@ use test_cases::Tally;
 
 fn main() {
     io::write_all(1, b"vectors behind IP");
-    let t = exts::run(Tally::new());
-    let t = transport::run(t);
-    t.report();
+    let mut tally = Tally::new();
+    exts::run(&mut tally);
+    transport::run(&mut tally);
+    tally.report();
 }

@@ -2,10 +2,7 @@
 use test_cases::Tally;
 
 // A UDP length of 8, and then of 12.
-fn udp_in_ipv4(t: Tally) -> Tally {
-    test_cases::run(
-        t,
-        b"n UDP, room by IPv4 total length, Ethernet
+const UDP_IN_IPV4: &[u8] = b"n UDP, room by IPv4 total length, Ethernet
 z 12
 x 0800 4500001c 00000000 40110000
 z 8
@@ -39,15 +36,10 @@ b 3 31
 b 3 32
 2 34 ipv4 0 20/udp 20 8/payload 28 4/stop 5
 b 3 33
-2 34 ipv4 0 20/udp 20 8/payload 28 4/stop 5",
-    )
-}
+2 34 ipv4 0 20/udp 20 8/payload 28 4/stop 5";
 
 // The same.
-fn udp_in_ipv6(t: Tally) -> Tally {
-    test_cases::run(
-        t,
-        b"n UDP, room by IPv6 payload length, Ethernet
+const UDP_IN_IPV6: &[u8] = b"n UDP, room by IPv6 payload length, Ethernet
 z 12
 x 86dd 60000000 00081140
 z 32
@@ -81,15 +73,10 @@ b 5 11
 b 5 12
 3 54 ipv6 0 40/udp 40 8/payload 48 4/stop 5
 b 5 13
-3 54 ipv6 0 40/udp 40 8/payload 48 4/stop 5",
-    )
-}
+3 54 ipv6 0 40/udp 40 8/payload 48 4/stop 5";
 
 // The same.
-fn udp_to_the_end(t: Tally) -> Tally {
-    test_cases::run(
-        t,
-        b"n UDP, room by the slice, Ethernet
+const UDP_TO_THE_END: &[u8] = b"n UDP, room by the slice, Ethernet
 z 12
 x 86dd 60000000 00001140
 z 32
@@ -111,14 +98,9 @@ x 00350035 00080000
 b 45 12
 3 51 refused 1 udp-payload 40 required 12 have 11 source slice
 3 52 ipv6 0 40/udp 40 8/payload 48 4/stop 5
-3 53 ipv6 0 40/udp 40 8/payload 48 4/stop 5",
-    )
-}
+3 53 ipv6 0 40/udp 40 8/payload 48 4/stop 5";
 
-fn udp_lengths(t: Tally) -> Tally {
-    test_cases::run(
-        t,
-        b"n UDP length 7, 8 and 9
+const UDP_LENGTHS: &[u8] = b"n UDP length 7, 8 and 9
 x 4500001d 00000000 40110000
 z 8
 x 00350035 00080000
@@ -163,15 +145,10 @@ z 6
 x 00350035 00080000
 3 55 refused 1 udp 48 required 8 have 7 source slice
 3 56 ipv6 0 40/hop-by-hop 40 8/udp 48 8/payload 56 0/stop 5
-3 57 ipv6 0 40/hop-by-hop 40 8/udp 48 8/payload 56 0/stop 5",
-    )
-}
+3 57 ipv6 0 40/hop-by-hop 40 8/udp 48 8/payload 56 0/stop 5";
 
 // A data offset of 5, and then of 6.
-fn tcp_in_ipv4(t: Tally) -> Tally {
-    test_cases::run(
-        t,
-        b"n TCP, room by IPv4 total length, Ethernet
+const TCP_IN_IPV4: &[u8] = b"n TCP, room by IPv4 total length, Ethernet
 z 12
 x 0800 45000028 00000000 40060000
 z 8
@@ -205,15 +182,10 @@ b 3 43
 b 3 44
 2 46 ipv4 0 20/tcp 20 24/payload 44 0/stop 5
 b 3 45
-2 46 ipv4 0 20/tcp 20 24/payload 44 1/stop 5",
-    )
-}
+2 46 ipv4 0 20/tcp 20 24/payload 44 1/stop 5";
 
 // The same.
-fn tcp_in_ipv6(t: Tally) -> Tally {
-    test_cases::run(
-        t,
-        b"n TCP, room by IPv6 payload length, Ethernet
+const TCP_IN_IPV6: &[u8] = b"n TCP, room by IPv6 payload length, Ethernet
 z 12
 x 86dd 60000000 00140640
 z 32
@@ -247,15 +219,10 @@ b 5 23
 b 5 24
 3 66 ipv6 0 40/tcp 40 24/payload 64 0/stop 5
 b 5 25
-3 66 ipv6 0 40/tcp 40 24/payload 64 1/stop 5",
-    )
-}
+3 66 ipv6 0 40/tcp 40 24/payload 64 1/stop 5";
 
 // The same.
-fn tcp_to_the_end(t: Tally) -> Tally {
-    test_cases::run(
-        t,
-        b"n TCP, room by the slice, Ethernet
+const TCP_TO_THE_END: &[u8] = b"n TCP, room by the slice, Ethernet
 z 12
 x 86dd 60000000 00000640
 z 32
@@ -277,14 +244,9 @@ x 00500050 00000000 00000000 50020000 00000000
 b 52 96
 3 63 refused 1 tcp 40 required 24 have 23 source slice
 3 64 ipv6 0 40/tcp 40 24/payload 64 0/stop 5
-3 65 ipv6 0 40/tcp 40 24/payload 64 1/stop 5",
-    )
-}
+3 65 ipv6 0 40/tcp 40 24/payload 64 1/stop 5";
 
-fn tcp_offsets(t: Tally) -> Tally {
-    test_cases::run(
-        t,
-        b"n TCP data offset 15
+const TCP_OFFSETS: &[u8] = b"n TCP data offset 15
 x 60000000 00000640
 z 32
 x 00500050 00000000 00000000 f0020000 00000000
@@ -318,17 +280,20 @@ z 6
 x 00500050 00000000 00000000 50020000 00000000
 3 67 refused 1 tcp 48 required 20 have 19 source slice
 3 68 ipv6 0 40/destination 40 8/tcp 48 20/payload 68 0/stop 5
-3 69 ipv6 0 40/destination 40 8/tcp 48 20/payload 68 1/stop 5",
-    )
-}
+3 69 ipv6 0 40/destination 40 8/tcp 48 20/payload 68 1/stop 5";
 
-pub fn run(t: Tally) -> Tally {
-    let t = udp_in_ipv4(t);
-    let t = udp_in_ipv6(t);
-    let t = udp_to_the_end(t);
-    let t = udp_lengths(t);
-    let t = tcp_in_ipv4(t);
-    let t = tcp_in_ipv6(t);
-    let t = tcp_to_the_end(t);
-    tcp_offsets(t)
+pub fn run(tally: &mut Tally) {
+    let lists = [
+        UDP_IN_IPV4,
+        UDP_IN_IPV6,
+        UDP_TO_THE_END,
+        UDP_LENGTHS,
+        TCP_IN_IPV4,
+        TCP_IN_IPV6,
+        TCP_TO_THE_END,
+        TCP_OFFSETS,
+    ];
+    for list in lists {
+        test_cases::run(tally, list);
+    }
 }

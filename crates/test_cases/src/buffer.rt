@@ -1,0 +1,75 @@
+// Bytes in a room of a fixed size, which is filled from its begin; those that are not filled yet are zero. Where the room ends, nothing more
+// goes in.
+ghost use Rattle.std.specs.Prelude.{◌≤◌};
+
+use crate::text::{pair, unslashed};
+
+#[derive(Drop)]
+pub struct Buffer<const N: usize> {
+    room: [u8; N],
+    len: usize,
+    ghost inside: { len ≤ N },
+}
+
+impl<const N: usize> Buffer<N> {
+    pub fn new() -> Self {
+        Buffer {
+            room: [0; N],
+            len: 0,
+        }
+    }
+
+    // The whole room, with the zeros behind what was filled.
+    pub fn room(&self) -> &[u8; N] {
+        &self.room
+    }
+
+    pub fn bytes(&self) -> &[u8] {
+        &self.room[..self.len]
+    }
+
+    pub fn push(&mut self, byte: u8) {
+        if self.len < N {
+            self.room[self.len] = byte;
+            self.len += 1;
+        }
+    }
+
+    // Two hexadecimal digits make a byte; spaces may stand between bytes.
+    pub fn push_hex(&mut self, digits: &[u8]) {
+        for word in digits.split(|c| *c == b' ') {
+            let (pairs, _) = word.as_chunks::<2>();
+            for [high, low] in pairs {
+                self.push(pair(*high, *low));
+            }
+        }
+    }
+
+    // An answer of several lines, which stand in a list with slashes between them.
+    pub fn push_lines(&mut self, listed: &[u8]) {
+        for c in listed {
+            self.push(unslashed(*c));
+        }
+        self.push(b'\n');
+    }
+
+    // Zero bytes behind those that are there.
+    pub fn skip(&mut self, n: usize) {
+        if n <= N - self.len {
+            self.len += n;
+        }
+    }
+
+    // The byte at a place; bytes up to it are there then.
+    pub fn set(&mut self, at: usize, byte: u8) {
+        if at < N {
+            self.room[at] = byte;
+            self.len = self.len.max(at + 1);
+        }
+    }
+
+    pub fn clear(&mut self) {
+        self.room.fill(0);
+        self.len = 0;
+    }
+}
