@@ -92,8 +92,8 @@ fn number_of(number: Number) -> usize
     ensures { result ≡ number_of number }
 {
     match number {
-        Number::Link(ether_type) => ether_type.0 as usize,
-        Number::Ip(ip_number) => ip_number.0 as usize,
+        Number::Link(ether_type) => usize::from(ether_type.0),
+        Number::Ip(ip_number) => usize::from(ip_number.0),
     }
 }
 
@@ -210,15 +210,7 @@ fn no_option_row() -> OptionRow
 fn is_known(kind: OptionKind) -> bool
     ensures { result ≡ is_known (kind_on_paper kind) }
 {
-    match kind {
-        OptionKind::Noop => true,
-        OptionKind::MaximumSegmentSize => true,
-        OptionKind::WindowScale => true,
-        OptionKind::SelectiveAcknowledgementPermitted => true,
-        OptionKind::SelectiveAcknowledgement => true,
-        OptionKind::Timestamp => true,
-        OptionKind::Unknown(_number) => false,
-    }
+    !matches!(kind, OptionKind::Unknown(_))
 }
 
 pub fn option_by(answer: Result<Option<TcpOption>, OptionRefusal>) -> OptionReply

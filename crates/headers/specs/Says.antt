@@ -1,5 +1,5 @@
 -- What the readers say, from the table of crate rules: the fields of a header that passes its tests, or the first failed.
-use Rattle.std.specs.Prelude.{ℕ, List, Result, Ok, Err}
+use Rattle.std.specs.Prelude.{ℕ, List, eqb, Option, Some, None, Result, Ok, Err}
 use Rattle.rules.specs.declared.ether_type.EtherType.{EtherType}
 use Rattle.rules.specs.declared.ip_number.IpNumber.{IpNumber}
 use Rattle.rules.specs.declared.kind.Kind.{Kind}
@@ -7,7 +7,7 @@ use Rattle.rules.specs.declared.kind.Kind.TheVariants.{Udp, Tcp}
 use Rattle.rules.specs.declared.place.Number.{Number}
 use Rattle.rules.specs.declared.place.Number.TheVariants.{Link, Ip}
 use Rattle.rules.specs.declared.refusal.Fault.{Fault}
-use Rattle.rules.specs.Test.{Verdict, whole, failed}
+use Rattle.rules.specs.Test.{pick, Verdict, whole, failed}
 use Rattle.rules.specs.Paper.{fault_on_paper}
 use Rattle.rules.specs.Rules.{Rule, rule, raw_rule, ether_type_of, ip_number_of, udp_end, tcp_end, says}
 use Rattle.headers.specs.declared.net.IpHeader.{IpHeader}
@@ -32,8 +32,12 @@ abbrev pub net_number : Number → IpNumber
 net_number (Link n) = ip_number_of 0
 net_number (Ip n) = n
 
+-- a declared length: the rules have 0 where a header declares none
+abbrev pub declared_in : ℕ → Option ℕ
+declared_in d = pick (eqb d 0) None (Some d)
+
 abbrev pub ip_fields : Rule → (ℕ → ℕ) → IpHeader
-ip_fields r g = record { len = r.size g; declared = r.declared g; names = net_number (r.names g); fragment = r.fragment g }
+ip_fields r g = record { len = r.size g; declared = declared_in (r.declared g); names = net_number (r.names g); fragment = r.fragment g }
 
 abbrev pub ext_fields : Rule → (ℕ → ℕ) → ExtHeader
 ext_fields r g = record { len = r.size g; names = net_number (r.names g); fragment = r.fragment g }

@@ -1,9 +1,9 @@
 -- A reader's answer at a place: what a whole header says, or the row of its refusal there.
-use Rattle.std.specs.Prelude.{ℕ, List, ◌≡◌, eqb, Result, Ok, Err}
+use Rattle.std.specs.Prelude.{ℕ, List, ◌≡◌, Option, Some, None, unwrap_or, Result, Ok, Err}
 use Rattle.rules.specs.declared.kind.RoomSource.{RoomSource}
 use Rattle.rules.specs.declared.refusal.Refusal.{Refusal}
 use Rattle.rules.specs.declared.refusal.Row.{Row}
-use Rattle.rules.specs.Test.{pick, Verdict, whole, failed, placed}
+use Rattle.rules.specs.Test.{Verdict, whole, failed, placed}
 use Rattle.rules.specs.Paper.{refusal_on_paper}
 use Rattle.headers.specs.declared.net.IpHeader.{IpHeader}
 use Rattle.headers.specs.declared.transport.TransportHeader.{TransportHeader}
@@ -26,6 +26,11 @@ abbrev pub over : {A B : Type 0} → (A → B) → Verdict A → Verdict B
 over f (whole x) = whole (f x)
 over f (failed e) = failed e
 
+-- what set the room behind a header that declares a length, or none
+abbrev pub set_source : Option ℕ → (sets source : RoomSource) → RoomSource
+set_source (Some d) sets source = sets
+set_source None sets source = source
+
 -- the room that an IP header sets, counted from the header: it ends at the declared length and is the header's; a header that
 -- declares none keeps the room of `have` bytes that `source` set
 abbrev pub setting : IpHeader → (have : ℕ) → (sets source : RoomSource) → IpFound
@@ -33,9 +38,9 @@ setting x have sets source =
     record {
       names = x.names;
       fragment = x.fragment;
-      source = pick (eqb x.declared 0) source sets;
+      source = set_source x.declared sets source;
       len = x.len;
-      end = pick (eqb x.declared 0) have x.declared;
+      end = unwrap_or x.declared have;
     }
 
 -- what a transport header's reader says

@@ -1,5 +1,5 @@
 -- A header of any kind at the begin of some bytes that reach to its room's end: what the code answers, and what the rules give.
-use Rattle.std.specs.Prelude.{ℕ, ◌+◌, ◌-◌, ◌≡◌, List, Bool, true, false, eqb, Result, Ok, Err}
+use Rattle.std.specs.Prelude.{ℕ, ◌+◌, ◌-◌, ◌≡◌, List, Bool, true, false, eqb, Option, Some, None, unwrap_or, Result, Ok, Err}
 use Rattle.std.proofs.Math.Path.{refl, ap}
 use Rattle.std.proofs.Common.{sym, ◌∙◌}
 use native.Mathlib.Omega.{arith}
@@ -7,6 +7,7 @@ use Rattle.std.proofs.Math.ListN.{length}
 use Rattle.rules.specs.declared.ether_type.EtherType.{EtherType}
 use Rattle.rules.specs.declared.kind.Kind.{Kind}
 use Rattle.rules.specs.declared.kind.Kind.TheVariants.{Ethernet2, Vlan, Ipv4, Ipv6, HopByHop, Routing, Destination, Fragment, Auth, Udp, Tcp}
+use Rattle.rules.specs.declared.kind.RoomSource.{RoomSource}
 use Rattle.rules.specs.declared.kind.RoomSource.TheVariants as S
 use Rattle.rules.specs.declared.place.Number.TheVariants.{Link, Ip}
 use Rattle.rules.specs.declared.place.Room.{Room}
@@ -29,7 +30,7 @@ use Rattle.headers.specs.Says.{link_says, ip_says, ext_says, udp_says, tcp_says}
 use Rattle.one_header.specs.declared.ip.IpFound.{IpFound}
 use Rattle.one_header.specs.declared.header.HeaderFound.{HeaderFound}
 use Rattle.one_header.specs.Turns.{first_turn, later_turn}
-use Rattle.one_header.specs.At.{Placed, here, refused, placing, over, setting}
+use Rattle.one_header.specs.At.{Placed, here, refused, placing, over, set_source, setting}
 
 -- ---- the code's answer on paper, for a header at an offset in a room of which it takes tags and IP headers held
 
@@ -180,24 +181,30 @@ module _ (w : List ℕ) (at : ℕ) (p : Room) where
   unfolding follow_of turn_of names_of payload_of leaves length_of declared_of fragment_of
   vlan_reads e = ap (λ o. link_header o 4 (length w) at p) e ∙ by_fields Vlan _ (λ o. link_header o 4 (length w) at p) (λ r. refl) refl
 
-  -- where a room ends that an IP header sets, counted from the header or from the frame's start
-  moved : (b : Bool) (have d : ℕ) → at + pick b have d ≡ pick b (at + have) (at + d)
+  -- the room that an IP header sets: where it ends, counted from the header or from the frame's start, and what set it
+  moved : (b : Bool) (have d : ℕ) → at + unwrap_or (pick b None (Some d)) have ≡ pick b (at + have) (at + d)
   moved true have d = refl
   moved false have d = refl
+
+  sourced : (b : Bool) (d : ℕ) (sets source : RoomSource) → set_source (pick b None (Some d)) sets source ≡ pick b source sets
+  sourced true d sets source = refl
+  sourced false d sets source = refl
 
   pub ipv4_reads : {o : Placed IpFound} → o ≡ placing (over (λ x. setting x (length w) S.Ipv4 p.source) (ip_says Ipv4 p.version w)) at p.source
       → ip_header o 4 at p ≡ read_part w Ipv4 at p
   unfolding follow_of turn_of names_of payload_of leaves length_of declared_of fragment_of
   ipv4_reads e =
+      let d = value total_length (seen Ipv4 w) in
       ap (λ o. ip_header o 4 at p) e ∙ by_part Ipv4 _ (λ x. setting x (length w) S.Ipv4 p.source) (λ o. ip_header o 4 at p) (λ r. refl)
-      (rw (moved (eqb (value total_length (seen Ipv4 w)) 0) (length w) (value total_length (seen Ipv4 w))) refl)
+      (rw (moved (eqb d 0) (length w) d, sourced (eqb d 0) d S.Ipv4 p.source) refl)
 
   pub ipv6_reads : {o : Placed IpFound} → o ≡ placing (over (λ x. setting x (length w) S.Ipv6 p.source) (ip_says Ipv6 p.version w)) at p.source
       → ip_header o 6 at p ≡ read_part w Ipv6 at p
   unfolding follow_of turn_of names_of payload_of leaves length_of declared_of fragment_of
   ipv6_reads e =
+      let d = ipv6_declared (seen Ipv6 w) in
       ap (λ o. ip_header o 6 at p) e ∙ by_part Ipv6 _ (λ x. setting x (length w) S.Ipv6 p.source) (λ o. ip_header o 6 at p) (λ r. refl)
-      (rw (moved (eqb (ipv6_declared (seen Ipv6 w)) 0) (length w) (ipv6_declared (seen Ipv6 w))) refl)
+      (rw (moved (eqb d 0) (length w) d, sourced (eqb d 0) d S.Ipv6 p.source) refl)
 
   pub hop_reads : {o : Placed ExtHeader} → o ≡ placing (ext_says HopByHop p.version w) at p.source → ext_header o 6 (length w) at p ≡ read_part w HopByHop at p
   unfolding follow_of turn_of names_of payload_of leaves length_of declared_of fragment_of

@@ -65,21 +65,16 @@ pub struct IpFound {
 fn set_room(x: IpHeader, have: usize, sets: RoomSource, source: RoomSource) -> IpFound
     ensures { result ≡ setting x have sets source }
 {
-    if x.declared == 0 {
-        return IpFound {
-            names: x.names,
-            fragment: x.fragment,
-            source,
-            len: x.len,
-            end: have,
-        };
-    }
+    let (end, source) = match x.declared {
+        None => (have, source),
+        Some(end) => (end, sets),
+    };
     IpFound {
+        len: x.len,
+        end,
+        source,
         names: x.names,
         fragment: x.fragment,
-        source: sets,
-        len: x.len,
-        end: x.declared,
     }
 }
 

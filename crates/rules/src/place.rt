@@ -15,7 +15,7 @@ pub struct Room {
     pub end: usize,
     // tags held, the header itself included
     pub tags: usize,
-    // the version of the IP header that the room lies in, 0 before any
+    // the version of the IP header that the room lies in, 0 before any; a number and no kind, since `header_at` and `next` take any
     pub version: usize,
     // IP headers met, the header itself included
     pub ips: usize,

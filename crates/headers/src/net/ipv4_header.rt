@@ -51,7 +51,7 @@ pub fn read_ipv4(w: &[u8]) -> Result<IpHeader, Fault>
     let fragment = Fragment::by(word % 0x2000, word / 0x2000 % 2);
     Ok(IpHeader {
         len,
-        declared: total,
+        declared: Some(total),
         names: IpNumber(byte(w, field::IPV4_PROTOCOL)),
         fragment,
     })

@@ -26,7 +26,7 @@ pub fn read_ipv6(w: &[u8]) -> Result<IpHeader, Fault>
     if payload == 0 {
         return Ok(IpHeader {
             len: length::IPV6,
-            declared: 0,
+            declared: None,
             names,
             fragment: Fragment::Not,
         });
@@ -42,7 +42,7 @@ pub fn read_ipv6(w: &[u8]) -> Result<IpHeader, Fault>
     }
     Ok(IpHeader {
         len: length::IPV6,
-        declared,
+        declared: Some(declared),
         names,
         fragment: Fragment::Not,
     })

@@ -12,8 +12,8 @@ pub struct IpHeader {
     pub names: IpNumber,
     pub fragment: Fragment,
     pub len: usize,
-    // the declared length: total length, or 40 + payload length; 0 where the payload length is 0
-    pub declared: usize,
+    // the declared length: total length, or 40 + payload length; none where the payload length is 0
+    pub declared: Option<usize>,
 }
 
 #[derive(Clone, Copy)]

@@ -1,6 +1,8 @@
 -- `net::ipv4_header::read_ipv4` meets its contract. Assumes nothing.
 use Rattle.rules.specs.Test.{beyond}
 use mathlib.Core.Path.{refl}
+use borrow.Author.Tests.{ne_eqb}
+use native.Mathlib.Omega.{arith}
 use Rattle.rules.specs.Rules.{says, tests_by, seen_by}
 use Rattle.rules.specs.Test.{on, off, done, judged}
 use Rattle.headers.proofs.net.ipv4_header.read_ipv4.Goals as goal
@@ -43,4 +45,4 @@ pub returns-clause-answer : goal.returns-clause-answer
 unfolding says tests_by seen_by
 returns-clause-answer c =
     λ v. simp (← c.byte-first.ensures.answer, ← c.be16-total.ensures.answer, ← c.be16-word.ensures.answer, ← c.by-fragment.ensures, ← c.byte.ensures.answer) (judged (on c.if-have-lt-IPV4.false
-    (on c.if-version-ne4.false (on c.if-ihl-lt-LEAST_WORDS.false (on c.if-have-len.false (on c.if-total-len.false (on c.if-have-total.false (done (refl)))))))))
+    (on c.if-version-ne4.false (on c.if-ihl-lt-LEAST_WORDS.false (on c.if-have-len.false (on c.if-total-len.false (on c.if-have-total.false (done (rw (ne_eqb c.be16-total.result 0 (λ e. omega (arith, e, c.if-total-len.false, c.if-ihl-lt-LEAST_WORDS.false))) refl)))))))))

@@ -2,6 +2,7 @@
 use Rattle.rules.specs.Test.{beyond}
 use borrow.Author.Tests.{eq-eqb, ne_eqb}
 use mathlib.Core.Path.{refl}
+use Prim.Native.Nat.{◌+◌}
 use Rattle.rules.specs.Rules.{says, tests_by, seen_by}
 use Rattle.rules.specs.Test.{on, off, done, judged}
 use native.Mathlib.Omega.{arith}
@@ -32,4 +33,4 @@ pub returns-clause-answer : goal.returns-clause-answer
 unfolding says tests_by seen_by
 returns-clause-answer c =
     λ v. simp (← c.byte.ensures.answer, ← c.be16-payload.ensures.answer, ← c.byte-2.ensures.answer, ne_eqb _ 0 c.if-payload-eq0.false) (judged (on c.if-have-lt-IPV6.false (on
-    c.if-version-ne6.false (on c.if-have-declared.false (done (refl))))))
+    c.if-version-ne6.false (on c.if-have-declared.false (done (rw (ne_eqb (40 + c.be16-payload.result) 0 (λ e. omega (arith, e))) refl))))))
