@@ -17,7 +17,7 @@ pub fn read_auth(w: &[u8]) -> Result<ExtHeader, Fault>
     if have < length::AUTH {
         return Err(too_short(Kind::Auth, length::AUTH, have));
     }
-    let words = byte(w, field::EXT_LENGTH) as usize;
+    let words = usize::from(byte(w, field::EXT_LENGTH));
     if words == 0 {
         return Err(Fault::ZeroAuthLength);
     }

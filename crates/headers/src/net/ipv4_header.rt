@@ -17,7 +17,7 @@ pub fn read_ipv4(w: &[u8]) -> Result<IpHeader, Fault>
     if have < length::IPV4 {
         return Err(too_short(Kind::Ipv4, length::IPV4, have));
     }
-    let first = byte(w, field::IPV4_VERSION_IHL) as usize;
+    let first = usize::from(byte(w, field::IPV4_VERSION_IHL));
     let version = first / 16;
     if version != 4 {
         return Err(Fault::Ipv4Version { version });
@@ -30,7 +30,7 @@ pub fn read_ipv4(w: &[u8]) -> Result<IpHeader, Fault>
     if have < len {
         return Err(too_short(Kind::Ipv4, len, have));
     }
-    let total = be16(w, field::IPV4_TOTAL_LENGTH) as usize;
+    let total = usize::from(be16(w, field::IPV4_TOTAL_LENGTH));
     if total < len {
         return Err(Fault::TooShort {
             required: len,

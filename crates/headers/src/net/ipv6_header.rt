@@ -17,11 +17,11 @@ pub fn read_ipv6(w: &[u8]) -> Result<IpHeader, Fault>
     if have < length::IPV6 {
         return Err(too_short(Kind::Ipv6, length::IPV6, have));
     }
-    let version = (byte(w, field::IPV6_VERSION) as usize) / 16;
+    let version = usize::from(byte(w, field::IPV6_VERSION)) / 16;
     if version != 6 {
         return Err(Fault::Ipv6Version { version });
     }
-    let payload = be16(w, field::IPV6_PAYLOAD_LENGTH) as usize;
+    let payload = usize::from(be16(w, field::IPV6_PAYLOAD_LENGTH));
     let names = IpNumber(byte(w, field::IPV6_NEXT_HEADER));
     if payload == 0 {
         return Ok(IpHeader {

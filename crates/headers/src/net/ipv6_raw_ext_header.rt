@@ -18,7 +18,7 @@ pub fn read_raw_ext(w: &[u8], kind: Kind) -> Result<ExtHeader, Fault>
     if have < length::RAW_EXT {
         return Err(too_short(kind, length::RAW_EXT, have));
     }
-    let units = byte(w, field::EXT_LENGTH) as usize;
+    let units = usize::from(byte(w, field::EXT_LENGTH));
     let len = (units + 1) * 8;
     if have < len {
         return Err(too_short(kind, len, have));

@@ -16,7 +16,7 @@ pub fn read_tcp(w: &[u8]) -> Result<TransportHeader, Fault>
     if have < length::TCP {
         return Err(too_short(Kind::Tcp, length::TCP, have));
     }
-    let value = (byte(w, field::TCP_DATA_OFFSET) as usize) / 16;
+    let value = usize::from(byte(w, field::TCP_DATA_OFFSET)) / 16;
     if value < length::LEAST_WORDS {
         return Err(Fault::SmallDataOffset { value });
     }

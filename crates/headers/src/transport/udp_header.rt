@@ -16,7 +16,7 @@ pub fn read_udp(w: &[u8]) -> Result<TransportHeader, Fault>
     if have < length::UDP {
         return Err(too_short(Kind::Udp, length::UDP, have));
     }
-    let end = be16(w, field::UDP_LENGTH) as usize;
+    let end = usize::from(be16(w, field::UDP_LENGTH));
     if end == 0 {
         return Ok(TransportHeader {
             len: length::UDP,
