@@ -1,6 +1,7 @@
 -- What each leg of the walk promises: the reply from where it begins is its refusal's, or the reply from where it ends, with
 -- what it found put in.
 use Rattle.std.specs.Prelude.{ℕ, zero, suc, ◌+◌, ◌-◌, ◌≤◌, ◌≡◌, List, [], ◌∷◌, Bool, true, false, length, Option, None, Some, Result, Ok, Err}
+use Rattle.std.specs.Bool.{then_some}
 use Rattle.rules.specs.declared.entry.Entry.{Entry}
 use Rattle.rules.specs.declared.ether_type.EtherType.{EtherType}
 use Rattle.rules.specs.declared.ip_number.IpNumber.{IpNumber}
@@ -75,7 +76,7 @@ ethernet_header = record { kind = kind_number Ethernet2; at = 0; len = ethernet_
 abbrev pub parts_of : (linked : Bool) (tags : ℕ) → Option IpPart → Option Header → Parts
 parts_of linked tags net transport =
     record {
-      link = pick linked (with_link nothing ethernet_header).link nothing.link;
+      link = then_some linked ethernet_header;
       tags = tags_from ethernet_length tags;
       net = net;
       transport = transport;

@@ -12,7 +12,6 @@ ghost use Rattle.slicer.specs.Legs.{
   tags_from,
   link_parts,
   found_by,
-  ending_by,
   found_ip,
   on_transport,
   net_place,
@@ -25,7 +24,7 @@ use crate::packet::{IpPart, SlicedPacket};
 use crate::transport::slice_transport;
 use one_header::{IpKind, LinkEnd};
 use rules::ether_type::TAG_LIMIT;
-use rules::{Ending, Entry, Header, Kind, Number, Range, Refusal, RoomSource, Stop, length};
+use rules::{Ending, Entry, Header, Kind, Number, Range, Refusal, RoomSource, length};
 
 // Tags stand one behind the other from the Ethernet header on, so their count tells where each is. The number of turns is
 // fixed, so that the compiler lays them out one after the other.
@@ -51,42 +50,27 @@ fn tag_headers(count: usize) -> [Header; TAG_LIMIT]
     tags
 }
 
-fn link_part(linked: bool) -> Option<Header>
-    ensures { result ≡ (link_parts linked 0).link }
-{
-    if linked {
-        return Some(Header {
-            kind: Kind::Ethernet2.number(),
-            at: 0,
-            len: length::ETHERNET2,
-        });
-    }
-    None
-}
-
-// The reply of an accepted frame. Its ending comes in parts, so that it is put together only where it stands in the end.
+// The reply of an accepted frame.
 fn accepted(
     front: LinkFound,
     net: Option<IpPart>,
     transport: Option<Header>,
-    payload: Range,
-    number: Number,
-    stop: Stop,
+    ending: Ending,
 ) -> SlicedPacket
     requires { front.tags ≤ tag_limit }
-    ensures { packet_on_paper (Ok result) ≡ accepted_by (found_by front net transport) (ending_on_paper (ending_by payload number stop)) }
+    ensures { packet_on_paper (Ok result) ≡ accepted_by (found_by front net transport) (ending_on_paper ending) }
 {
     SlicedPacket {
         tags: tag_headers(front.tags),
         count: front.tags,
         net,
-        link: link_part(front.linked),
+        link: front.linked.then_some(Header {
+            kind: Kind::Ethernet2.number(),
+            at: 0,
+            len: length::ETHERNET2,
+        }),
         transport,
-        ending: Ending {
-            payload,
-            number,
-            stop,
-        },
+        ending,
     }
 }
 
@@ -115,15 +99,7 @@ fn behind_ip(s: &[u8], front: LinkFound, found: NetFound) -> Result<SlicedPacket
         },
         fragmented: found.mark,
     };
-    let ending = x.ending;
-    Ok(accepted(
-        front,
-        Some(net),
-        x.transport,
-        ending.payload,
-        ending.number,
-        ending.stop,
-    ))
+    Ok(accepted(front, Some(net), x.transport, x.ending))
 }
 
 fn behind_link(s: &[u8], front: LinkFound, kind: IpKind) -> Result<SlicedPacket, Refusal>
@@ -143,12 +119,15 @@ pub fn slice(s: &[u8], entry: Entry) -> Result<SlicedPacket, Refusal>
     match front.turn {
         LinkEnd::Opens(kind) => behind_link(s, front, kind),
         LinkEnd::Stops(stop) => {
-            let payload = Range {
-                at: front.at,
-                len: s.len() - front.at,
+            let ending = Ending {
+                payload: Range {
+                    at: front.at,
+                    len: s.len() - front.at,
+                },
+                number: Number::Link(front.number),
+                stop,
             };
-            let number = Number::Link(front.number);
-            Ok(accepted(front, None, None, payload, number, stop))
+            Ok(accepted(front, None, None, ending))
         }
     }
 }
