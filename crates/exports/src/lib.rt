@@ -17,7 +17,6 @@ ghost use Rattle.exports.specs.Handed.{
 use crate::handed::{CountReply, INTERFACE, OptionReply, Packet};
 use checksum::Sum16BitWords;
 use rules::Entry;
-use slicer::{NetPart, Outcome};
 use steps::CountAnswer;
 
 pub mod handed;
@@ -61,22 +60,17 @@ pub fn bhirkulom_slice(frame: &[u8], entry: usize) -> Packet
     let Chosen::Is(known) = chosen else {
         return reply::no_packet();
     };
-    let sliced = slicer::slice(frame, known);
-    let outcome = sliced.outcome;
     // a `return` in each arm: a value out of the match would be put together in memory and copied (docs/SPEED.md)
-    match outcome {
-        Outcome::Accepted(ending) => {
-            let net = sliced.net;
-            match net {
-                NetPart::Nothing => {
-                    return reply::accepted_packet(sliced, reply::no_net(), ending);
-                }
-                NetPart::Ip(ip) => {
-                    return reply::accepted_packet(sliced, reply::net_by(ip), ending);
-                }
+    match slicer::slice(frame, known) {
+        Ok(sliced) => match sliced.net {
+            None => {
+                return reply::accepted_packet(sliced, reply::no_net());
             }
-        }
-        Outcome::Refused(refusal) => {
+            Some(ip) => {
+                return reply::accepted_packet(sliced, reply::net_by(ip));
+            }
+        },
+        Err(refusal) => {
             return reply::refused_packet(refusal);
         }
     }

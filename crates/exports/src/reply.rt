@@ -9,10 +9,9 @@ ghost use Rattle.tcp_options.specs.Paper.{kind_on_paper, option_on_paper};
 ghost use Rattle.exports.specs.declared.Chosen.TheVariants as C;
 ghost use Rattle.exports.specs.Handed.{
   range_of,
-  link_header,
   no_net,
   net_by,
-  transport_header,
+  header_or_none,
   number_of,
   numbering_of,
   no_row,
@@ -33,8 +32,8 @@ use crate::handed::{
     THERE,
 };
 use rules::ether_type::TAG_LIMIT;
-use rules::{Ending, Header, Number, Range, Refusal, Row};
-use slicer::{IpPart, LinkPart, SlicedPacket, TransportPart};
+use rules::{Header, Number, Range, Refusal, Row};
+use slicer::{IpPart, SlicedPacket};
 use tcp_options::{OptionAnswer, OptionKind, OptionRow};
 
 pub fn no_header() -> Header
@@ -58,13 +57,11 @@ pub fn no_row() -> Row
     }
 }
 
-fn link_header(part: LinkPart) -> Header
-    ensures { result ≡ link_header part }
+// No header is all zeros.
+fn header_or_none(part: Option<Header>) -> Header
+    ensures { result ≡ header_or_none part }
 {
-    match part {
-        LinkPart::Nothing => no_header(),
-        LinkPart::Ethernet2(header) => header,
-    }
+    part.unwrap_or(no_header())
 }
 
 pub fn no_net() -> Net
@@ -86,15 +83,6 @@ pub fn net_by(ip: IpPart) -> Net
         header,
         exts,
         fragmented: ip.fragmented,
-    }
-}
-
-fn transport_header(part: TransportPart) -> Header
-    ensures { result ≡ transport_header part }
-{
-    match part {
-        TransportPart::Nothing => no_header(),
-        TransportPart::Is(header) => header,
     }
 }
 
@@ -134,26 +122,21 @@ fn ranges(tags: [Header; TAG_LIMIT]) -> [Range; TAG_LIMIT]
 }
 
 // The packet of an accepted frame, its IP header handed over as `net`.
-pub fn accepted_packet(sliced: SlicedPacket, net: Net, ending: Ending) -> Packet
-    ensures { result ≡ accepted_with sliced net (ending_on_paper ending) }
+pub fn accepted_packet(sliced: SlicedPacket, net: Net) -> Packet
+    ensures { result ≡ accepted_with sliced net (ending_on_paper sliced.ending) }
 {
-    let link = sliced.link;
-    let tags = sliced.tags;
-    let transport = sliced.transport;
-    let payload = ending.payload;
-    let number = ending.number;
-    let stop = ending.stop;
+    let ending = sliced.ending;
     Packet {
         status: THERE,
-        link: link_header(link),
+        link: header_or_none(sliced.link),
         count: sliced.count,
-        tags: ranges(tags),
+        tags: ranges(sliced.tags),
         net,
-        transport: transport_header(transport),
-        payload,
-        number: number_of(number),
-        numbering: numbering(number),
-        stop: stop.number(),
+        transport: header_or_none(sliced.transport),
+        payload: ending.payload,
+        number: number_of(ending.number),
+        numbering: numbering(ending.number),
+        stop: ending.stop.number(),
         refusal: no_row(),
     }
 }
@@ -181,7 +164,7 @@ fn partless(status: usize, refusal: Row) -> Packet
 pub fn refused_packet(refusal: Refusal) -> Packet
     ensures { result ≡ packet_by (refused_by (refusal_on_paper refusal)) }
 {
-    let row = refusal.row();
+    let row = Row::from(refusal);
     partless(REFUSED, row)
 }
 
@@ -209,7 +192,7 @@ pub fn uncounted(refusal: Refusal) -> CountReply
     CountReply {
         status: REFUSED,
         count: 0,
-        refusal: refusal.row(),
+        refusal: Row::from(refusal),
     }
 }
 
