@@ -25,29 +25,24 @@ use crate::transport::slice_transport;
 use one_header::{IpKind, LinkEnd};
 use rules::ether_type::TAG_LIMIT;
 use rules::{Ending, Entry, Header, Kind, Number, Range, Refusal, RoomSource, length};
+use std::array;
 
-// Tags stand one behind the other from the Ethernet header on, so their count tells where each is. The number of turns is
-// fixed, so that the compiler lays them out one after the other.
+// Tags stand one behind the other from the Ethernet header on, so their count tells where each is.
 fn tag_headers(count: usize) -> [Header; TAG_LIMIT]
     requires { count ≤ tag_limit }
     ensures { result ≡ slots tag_limit (tags_from ethernet_length count) }
 {
-    let mut tags = [Header::default(); TAG_LIMIT];
-    let kind = Kind::Vlan.number();
-    let mut at = length::ETHERNET2;
-    let mut i: usize = 0;
-    while i < TAG_LIMIT {
+    array::from_fn(|i| {
         if i < count {
-            tags[i] = Header {
-                kind,
-                at,
+            Header {
+                kind: Kind::Vlan.number(),
+                at: length::ETHERNET2 + i * length::VLAN,
                 len: length::VLAN,
-            };
+            }
+        } else {
+            Header::default()
         }
-        at += length::VLAN;
-        i += 1;
-    }
-    tags
+    })
 }
 
 // The reply of an accepted frame.
