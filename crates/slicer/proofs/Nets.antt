@@ -16,6 +16,7 @@ use Rattle.rules.specs.declared.place.Room.{Room}
 use Rattle.rules.specs.declared.refusal.Row.{Row}
 use Rattle.rules.specs.Bytes.{part}
 use Rattle.rules.specs.Numbers.{auth_number}
+use Rattle.rules.specs.Named.{kind_number}
 use Rattle.rules.specs.Fields.{marking}
 use Rattle.rules.specs.Rules.{rule}
 use Rattle.rules.specs.Place.{place, room, follow}
@@ -80,12 +81,17 @@ module _ {s : List ℕ} {k : IpKind} {at end : ℕ} {source : RoomSource} {o : P
           behind I.Ipv4 y = whole_is f y ∙ rw me refl
           behind I.Ipv6 y = whole_is f y ∙ rw me refl
 
-      pub ip_done : {kind : Kind} {y : ExtsFound} → kind ≡ ip_kind_of k → ExtsDone s (ip_kind_of k) x.names (at + x.len) (at + x.end) x.source mark y
+      pub ip_done : {kind : ℕ} {y : ExtsFound} → kind ≡ kind_number (ip_kind_of k) → ExtsDone s (ip_kind_of k) x.names (at + x.len) (at + x.end) x.source mark y
           → NetDone s (ip_kind_of k) at end source
-          (record { kind = kind; begin = at; len = x.len; at = y.at; end = at + x.end; source = x.source; number = y.number; mark = y.mark })
+          (record {
+            ip = ip_part (record { kind = kind; at = at; len = x.len }) (at + x.len) y.at y.mark;
+            at = y.at;
+            end = at + x.end;
+            source = x.source;
+            number = y.number;
+          })
       ip_done ke w = rw ke record {
         left = λ f t v i m. ip_on f t v i m ∙ w.left f _ t i;
-        headed = w.headed;
         inside = w.inside;
         room = omega (arith, ip_in.1, ip_in.2);
       }

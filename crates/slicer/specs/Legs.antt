@@ -129,13 +129,9 @@ on_transport s f p number at = on_turn s f (transport p number.0) p at (Ip numbe
 abbrev pub head_of : Kind → (at len : ℕ) → Header
 head_of k at len = record { kind = kind_number k; at = at; len = len }
 
-abbrev pub found_ip : NetFound → Parts → Parts
-found_ip x f = with_net f (ip_part (head_of x.kind x.begin x.len) (x.begin + x.len) x.at x.mark)
-
 pub record NetDone (s : List ℕ) (k : Kind) (at end : ℕ) (source : RoomSource) (x : NetFound) : Type 0 where
   pub left : (f : Parts) (t v i : ℕ) (m : Bool) → gather slice_way f s (net_place k at end t v i source m)
-      ≡ on_transport s (found_ip x f) (net_room k x.end t i x.source x.mark) x.number x.at
-  pub headed : x.begin + x.len ≤ x.at
+      ≡ on_transport s (with_net f x.ip) (net_room k x.end t i x.source x.ip.fragmented) x.number x.at
   pub inside : x.at ≤ x.end
   pub room : x.end ≤ length s
 

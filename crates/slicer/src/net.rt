@@ -5,20 +5,18 @@ ghost use Rattle.rules.specs.declared.kind.Kind.TheVariants as K;
 ghost use Rattle.one_header.specs.Turns.{ip_kind_of};
 ghost use Rattle.slicer.specs.Legs.{Extended, Netted, leg_on_paper};
 
+use crate::packet::IpPart;
 use one_header::{ExtKind, ExtTurn, IpKind, ext_at, ext_turn, ip_at, opens_auth};
-use rules::{ChainPlace, IpNumber, Kind, Refusal, RoomSource};
+use rules::{ChainPlace, Header, IpNumber, Kind, Range, Refusal, RoomSource};
 
-// An IP header, where its extensions end and its room ends, and the number that names what follows.
+// An IP header with its extensions, where these end and its room ends, what set that, and the number that names what follows.
 #[derive(Clone, Copy)]
 pub struct NetFound {
-    pub kind: Kind,
-    pub begin: usize,
-    pub len: usize,
+    pub ip: IpPart,
     pub at: usize,
     pub end: usize,
     pub source: RoomSource,
     pub number: IpNumber,
-    pub mark: bool,
 }
 
 // Where an extension chain ends.
@@ -121,17 +119,27 @@ pub fn slice_ip(
     ensures { Netted s.now (ip_kind_of kind) at end source (leg_on_paper result) }
 {
     let x = ip_at(&s[at..end], kind, at, source)?;
+    let from = at + x.len;
     let inner = at + x.end;
     let mark = x.fragment.marks(false);
-    let exts = ip_exts_slice(s, kind, x.names, at + x.len, inner, x.source, mark)?;
-    Ok(NetFound {
-        kind: Kind::from(kind),
-        begin: at,
+    let exts = ip_exts_slice(s, kind, x.names, from, inner, x.source, mark)?;
+    let header = Header {
+        kind: Kind::from(kind).number(),
+        at,
         len: x.len,
+    };
+    Ok(NetFound {
+        ip: IpPart {
+            header,
+            exts: Range {
+                at: from,
+                len: exts.at - from,
+            },
+            fragmented: exts.mark,
+        },
         at: exts.at,
         end: inner,
         source: x.source,
         number: exts.number,
-        mark: exts.mark,
     })
 }

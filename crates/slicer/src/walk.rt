@@ -1,25 +1,16 @@
 // Slicing a frame: link, net and transport leg, then the reply in one piece.
-ghost use Rattle.std.specs.Prelude.{◌≡◌, Ok, false, ℕ, ◌+◌, ◌≤◌, length};
+ghost use Rattle.std.specs.Prelude.{◌≡◌, Ok, false, ◌≤◌, length};
 ghost use Rattle.rules.specs.declared.entry.Entry.TheVariants as E;
-ghost use Rattle.rules.specs.declared.kind.Kind.{Kind as AnyKind};
 ghost use Rattle.rules.specs.declared.kind.RoomSource.TheVariants as S;
 ghost use Rattle.rules.specs.Numbers.{ethernet_length, tag_limit};
 ghost use Rattle.rules.specs.Place.{ending_on_paper};
 ghost use Rattle.laws.specs.Gather.{gather};
 ghost use Rattle.one_header.specs.Turns.{ip_kind_of};
 ghost use Rattle.slicer.specs.Reply.{packet_on_paper, accepted_by, reply_of, slots, slice_way};
-ghost use Rattle.slicer.specs.Legs.{
-  tags_from,
-  link_parts,
-  found_by,
-  found_ip,
-  on_transport,
-  net_place,
-  net_room,
-};
+ghost use Rattle.slicer.specs.Legs.{tags_from, link_parts, found_by, net_place};
 
 use crate::link::{LinkFound, slice_link};
-use crate::net::{NetFound, slice_ip};
+use crate::net::slice_ip;
 use crate::packet::{IpPart, SlicedPacket};
 use crate::transport::slice_transport;
 use one_header::{IpKind, LinkEnd};
@@ -69,40 +60,21 @@ fn accepted(
     }
 }
 
-fn behind_ip(s: &[u8], front: LinkFound, found: NetFound) -> Result<SlicedPacket, Refusal>
-    requires { (front.tags ≤ tag_limit) × (found.begin + found.len ≤ found.at) × (found.at ≤ found.end) × (found.end ≤ length s.now) }
-    ensures { (k : AnyKind) (t i : ℕ) → packet_on_paper result ≡ on_transport s.now (found_ip found (link_parts front.linked front.tags)) (net_room k found.end t i found.source found.mark) found.number found.at }
-{
-    let x = slice_transport(
-        s,
-        found.number,
-        found.at,
-        found.end,
-        found.source,
-        found.mark,
-    )?;
-    let from = found.begin + found.len;
-    let net = IpPart {
-        header: Header {
-            kind: found.kind.number(),
-            at: found.begin,
-            len: found.len,
-        },
-        exts: Range {
-            at: from,
-            len: found.at - from,
-        },
-        fragmented: found.mark,
-    };
-    Ok(accepted(front, Some(net), x.transport, x.ending))
-}
-
+// From an IP header behind the link on.
 fn behind_link(s: &[u8], front: LinkFound, kind: IpKind) -> Result<SlicedPacket, Refusal>
     requires { (front.tags ≤ tag_limit) × (front.at ≤ length s.now) }
-    ensures { (i : ℕ) → packet_on_paper result ≡ gather slice_way (link_parts front.linked front.tags) s.now (net_place (ip_kind_of kind) front.at (length s.now) front.tags 0 i S.Slice false) }
+    ensures { packet_on_paper result ≡ gather slice_way (link_parts front.linked front.tags) s.now (net_place (ip_kind_of kind) front.at (length s.now) front.tags 0 1 S.Slice false) }
 {
-    let found = slice_ip(s, kind, front.at, s.len(), RoomSource::Slice)?;
-    behind_ip(s, front, found)
+    let net = slice_ip(s, kind, front.at, s.len(), RoomSource::Slice)?;
+    let found = slice_transport(
+        s,
+        net.number,
+        net.at,
+        net.end,
+        net.source,
+        net.ip.fragmented,
+    )?;
+    Ok(accepted(front, Some(net.ip), found.transport, found.ending))
 }
 
 // Any bytes, of any length, get their reply.

@@ -2,7 +2,8 @@
 use Rattle.slicer.proofs.Nets.{ip_answer, ip_short, ip_in, ip_done, ip_stuck}
 use Rattle.slicer.proofs.Answers.{there, turned, handed_on}
 use Rattle.slicer.specs.Legs.{went}
-use mathlib.Core.Path.{refl}
+use Rattle.rules.specs.Named.{kind_number}
+use mathlib.Core.Path.{refl, ap, ◌∙◌}
 use native.Mathlib.Omega.{arith}
 use Rattle.slicer.proofs.net.slice_ip.Goals as goal
 
@@ -14,8 +15,8 @@ pub overflow_add-inner : goal.overflow_add-inner
 overflow_add-inner c =
     let z = ip_in (ip_answer _ c.requires.0 c.requires.1 c.in_ok-x.ensures.answer) refl in omega (arith, z.0, z.1, z.2)
 
-pub overflow_add-at : goal.overflow_add-at
-overflow_add-at c =
+pub overflow_add-from : goal.overflow_add-from
+overflow_add-from c =
     let z = ip_in (ip_answer _ c.requires.0 c.requires.1 c.in_ok-x.ensures.answer) refl in omega (arith, z.0, z.1, z.2)
 
 pub ip_exts_slice-requires : goal.ip_exts_slice-requires
@@ -29,4 +30,5 @@ returns-in_err-exts c =
 
 pub returns : goal.returns
 returns c =
-    went (ip_done (ip_answer _ c.requires.0 c.requires.1 c.in_ok-x.ensures.answer) refl c.marks-mark.ensures c.from.ensures (there c.in_ok-exts.ensures))
+    went (ip_done (ip_answer _ c.requires.0 c.requires.1 c.in_ok-x.ensures.answer) refl c.marks-mark.ensures
+    (c.number.ensures ∙ ap kind_number c.from.ensures) (there c.in_ok-exts.ensures))
