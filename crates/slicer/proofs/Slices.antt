@@ -6,6 +6,7 @@ use Rattle.std.specs.Fn.{Called}
 use mathlib.Core.Path.{◌≡◌, refl, ap, ◌∙◌, subst}
 use mathlib.Core.List.{List, [], ◌∷◌}
 use mathlib.Core.Bool.{false}
+use Rattle.std.proofs.Common.{lt-ltb}
 use native.Mathlib.Omega.{arith}
 use native.Mathlib.Numerals.{add-one}
 use lib.ListN.{length}
@@ -63,13 +64,13 @@ made g at f step (a ∷ b ∷ c ∷ d ∷ l) z = let h = z.long in absurd (omega
 abbrev pub slot : ℕ → ℕ → Header
 slot n i = pick (ltb i n) (head_of Vlan (ethernet_length + i * tag_length) tag_length) no_header
 
-pub all_slots : (n : ℕ) → n ≤ tag_limit → slots tag_limit (tags_from ethernet_length n) ≡ slot n 0 ∷ slot n 1 ∷ slot n 2 ∷ []
+pub all_slots : (n : ℕ) → slots tag_limit (tags_from ethernet_length n) ≡ slot n 0 ∷ slot n 1 ∷ slot n 2 ∷ []
 unfolding slots tags_from
-all_slots zero h = refl
-all_slots (suc zero) h = refl
-all_slots (suc (suc zero)) h = refl
-all_slots (suc (suc (suc zero))) h = refl
-all_slots (suc (suc (suc (suc n)))) h = absurd (omega arith)
+all_slots zero = refl
+all_slots (suc zero) = refl
+all_slots (suc (suc zero)) = refl
+all_slots (suc (suc (suc n))) =
+    let m = suc (suc (suc n)) in rw (lt-ltb 0 m (omega arith), lt-ltb 1 m (omega arith), lt-ltb 2 m (omega arith)) refl
 
 -- ---- behind the link
 

@@ -101,7 +101,6 @@ on_link s tags number at = on_turn s (link_parts true tags) (link (link_room s t
 pub record LinkDone (s : List ℕ) (before : Reply) (x : LinkFound) : Type 0 where
   pub left : before ≡ on_turn s (link_parts x.linked x.tags) (link_end_on_paper x.turn) (link_room s x.tags) x.at (Link x.number)
   pub inside : x.at ≤ length s
-  pub few : x.tags ≤ tag_limit
 
 abbrev pub Linking : List ℕ → Reply → Ends LinkFound → Type 0
 Linking s before = Went (LinkDone s before) (λ r. before ≡ refused_by r)

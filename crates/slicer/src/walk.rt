@@ -20,7 +20,6 @@ use std::array;
 
 // Tags stand one behind the other from the Ethernet header on, so their count tells where each is.
 fn tag_headers(count: usize) -> [Header; TAG_LIMIT]
-    requires { count ≤ tag_limit }
     ensures { result ≡ slots tag_limit (tags_from ethernet_length count) }
 {
     array::from_fn(|i| {
@@ -43,7 +42,6 @@ fn accepted(
     transport: Option<Header>,
     ending: Ending,
 ) -> SlicedPacket
-    requires { front.tags ≤ tag_limit }
     ensures { packet_on_paper (Ok result) ≡ accepted_by (found_by front net transport) (ending_on_paper ending) }
 {
     SlicedPacket {
@@ -62,7 +60,7 @@ fn accepted(
 
 // From an IP header behind the link on.
 fn behind_link(s: &[u8], front: LinkFound, kind: IpKind) -> Result<SlicedPacket, Refusal>
-    requires { (front.tags ≤ tag_limit) × (front.at ≤ length s.now) }
+    requires { front.at ≤ length s.now }
     ensures { packet_on_paper result ≡ gather slice_way (link_parts front.linked front.tags) s.now (net_place (ip_kind_of kind) front.at (length s.now) front.tags 0 1 S.Slice false) }
 {
     let net = slice_ip(s, kind, front.at, s.len(), RoomSource::Slice)?;

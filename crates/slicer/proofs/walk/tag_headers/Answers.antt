@@ -5,4 +5,4 @@ use Rattle.slicer.proofs.walk.tag_headers.Goals as goal
 
 pub returns : goal.returns
 returns c =
-    rw (all_slots c.args.count c.requires) (made _ (slot c.args.count) _ (λ i y q k. search rules) _ c.from_fn.ensures.items)
+    rw (all_slots c.args.count) (made _ (slot c.args.count) _ (λ i y q k. search rules) _ c.from_fn.ensures.items)
