@@ -36,6 +36,7 @@ use Rattle.one_header.specs.declared.ip.IpKind.{IpKind}
 use Rattle.one_header.specs.At.{Placed, placing, over, setting}
 use Rattle.one_header.specs.Turns.{ip_kind_of, sets_of, first_turn, link_end_on_paper}
 use Rattle.slicer.specs.declared.packet.IpPart.{IpPart}
+use Rattle.slicer.specs.declared.room.RoomSlice.{RoomSlice}
 use Rattle.slicer.specs.declared.link.LinkFound.{LinkFound}
 use Rattle.slicer.specs.declared.net.NetFound.{NetFound}
 use Rattle.slicer.specs.declared.net.ExtsFound.{ExtsFound}
@@ -128,19 +129,12 @@ on_transport s f p number at = on_turn s f (transport p number.0) p at (Ip numbe
 abbrev pub head_of : Kind → (at len : ℕ) → Header
 head_of k at len = record { kind = kind_number k; at = at; len = len }
 
-pub record NetDone (s : List ℕ) (k : Kind) (at end : ℕ) (source : RoomSource) (x : NetFound) : Type 0 where
-  pub left : (f : Parts) (t v i : ℕ) (m : Bool) → gather slice_way f s (net_place k at end t v i source m)
-      ≡ on_transport s (with_net f x.ip) (net_room k x.end t i x.source x.ip.fragmented) x.number x.at
-  pub inside : x.at ≤ x.end
-  pub room : x.end ≤ length s
-
-abbrev pub Netted : List ℕ → Kind → (at end : ℕ) → RoomSource → Ends NetFound → Type 0
-Netted s k at end source =
-    Went (NetDone s k at end source) (λ r. (f : Parts) (t v i : ℕ) (m : Bool) → gather slice_way f s (net_place k at end t v i source m) ≡ refused_by r)
-
--- an IP header at a place, as `one_header` answers it
-pub record IpAnswer (w : List ℕ) (k : IpKind) (at : ℕ) (source : RoomSource) (o : Placed IpFound) : Type 0 where
-  pub is : (v : ℕ) → o ≡ placing (over (λ x. setting x (length w) (sets_of k) source) (ip_says (ip_kind_of k) v w)) at source
+abbrev pub Netted : RoomSlice → Kind → Ends NetFound → Type 0
+Netted r k =
+    Went
+    (λ x. (f : Parts) (t v i : ℕ) (m : Bool) → gather slice_way f r.frame.now (net_place k r.at r.end t v i r.source m)
+    ≡ on_transport x.room.frame.now (with_net f x.ip) (net_room k x.room.end t i x.room.source x.ip.fragmented) x.number x.room.at)
+    (λ q. (f : Parts) (t v i : ℕ) (m : Bool) → gather slice_way f r.frame.now (net_place k r.at r.end t v i r.source m) ≡ refused_by q)
 
 -- ---- the extensions of an IP header h of kind k, from the offset `from` on
 
@@ -159,10 +153,10 @@ pub record ExtsDone (s : List ℕ) (k : Kind) (begin : IpNumber) (from end : ℕ
   pub headed : from ≤ x.at
   pub inside : x.at ≤ end
 
-abbrev pub Extended : List ℕ → Kind → IpNumber → (from end : ℕ) → RoomSource → Bool → Ends ExtsFound → Type 0
-Extended s k begin from end source marked =
-    Went (ExtsDone s k begin from end source marked)
-    (λ r. (f : Parts) (h : Header) (t i : ℕ) → on_first s k f h from (net_room k end t i source marked) begin ≡ refused_by r)
+abbrev pub Extended : RoomSlice → Kind → IpNumber → Bool → Ends ExtsFound → Type 0
+Extended r k begin marked =
+    Went (ExtsDone r.frame.now k begin r.at r.end r.source marked)
+    (λ q. (f : Parts) (h : Header) (t i : ℕ) → on_first r.frame.now k f h r.at (net_room k r.end t i r.source marked) begin ≡ refused_by q)
 
 -- ---- the transport leg: whatever IP header it stands behind (k), whatever was found before (f)
 
@@ -177,9 +171,9 @@ opened_at number k at x =
       transport = Some (head_of k at x.len);
     }
 
-abbrev pub Carried : List ℕ → ℕ → RoomSource → Bool → IpNumber → ℕ → Ends TransportFound → Type 0
-Carried s end source mark number at =
+abbrev pub Carried : RoomSlice → Bool → IpNumber → Ends TransportFound → Type 0
+Carried r mark number =
     Went
     (λ x. (f : Parts) (k : Kind) (t i : ℕ) → f.transport ≡ None
-    → on_transport s f (net_room k end t i source mark) number at ≡ accepted_by (with_transport f x.transport) (ending_on_paper x.ending))
-    (λ r. (f : Parts) (k : Kind) (t i : ℕ) → on_transport s f (net_room k end t i source mark) number at ≡ refused_by r)
+    → on_transport r.frame.now f (net_room k r.end t i r.source mark) number r.at ≡ accepted_by (with_transport f x.transport) (ending_on_paper x.ending))
+    (λ q. (f : Parts) (k : Kind) (t i : ℕ) → on_transport r.frame.now f (net_room k r.end t i r.source mark) number r.at ≡ refused_by q)

@@ -12,6 +12,7 @@ ghost use Rattle.slicer.specs.Legs.{tags_from, link_parts, found_by, net_place};
 use crate::link::{LinkFound, slice_link};
 use crate::net::slice_ip;
 use crate::packet::{IpPart, SlicedPacket};
+use crate::room::RoomSlice;
 use crate::transport::slice_transport;
 use one_header::{IpKind, LinkEnd};
 use rules::ether_type::TAG_LIMIT;
@@ -63,15 +64,14 @@ fn behind_link(s: &[u8], front: LinkFound, kind: IpKind) -> Result<SlicedPacket,
     requires { front.at ≤ length s.now }
     ensures { packet_on_paper result ≡ gather slice_way (link_parts front.linked front.tags) s.now (net_place (ip_kind_of kind) front.at (length s.now) front.tags 0 1 S.Slice false) }
 {
-    let net = slice_ip(s, kind, front.at, s.len(), RoomSource::Slice)?;
-    let found = slice_transport(
-        s,
-        net.number,
-        net.at,
-        net.end,
-        net.source,
-        net.ip.fragmented,
-    )?;
+    let room = RoomSlice {
+        frame: s,
+        at: front.at,
+        end: s.len(),
+        source: RoomSource::Slice,
+    };
+    let net = slice_ip(room, kind)?;
+    let found = slice_transport(net.room, net.number, net.ip.fragmented)?;
     Ok(accepted(front, Some(net.ip), found.transport, found.ending))
 }
 

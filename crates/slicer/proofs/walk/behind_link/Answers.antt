@@ -13,9 +13,9 @@ returns-in_err-net c =
 pub returns-in_err-found : goal.returns-in_err-found
 returns-in_err-found c =
     let p = err_from_is_err_and c.from_residual-in_err-found.result c.from_residual-in_err-found.ensures.1 in
-    rw (p.1, p.2) (sym ((there c.in_ok-net.ensures).left _ _ _ _ _ ∙ turned c.in_err-found.ensures _ (ip_kind_of c.args.kind) _ _))
+    rw (p.1, p.2) (sym (there c.in_ok-net.ensures _ _ _ _ _ ∙ turned c.in_err-found.ensures _ (ip_kind_of c.args.kind) _ _))
 
 pub returns : goal.returns
 returns c =
     c.accepted.ensures
-    ∙ sym ((there c.in_ok-net.ensures).left _ _ _ _ _ ∙ there c.in_ok-found.ensures _ (ip_kind_of c.args.kind) _ _ refl)
+    ∙ sym (there c.in_ok-net.ensures _ _ _ _ _ ∙ there c.in_ok-found.ensures _ (ip_kind_of c.args.kind) _ _ refl)
