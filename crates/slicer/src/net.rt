@@ -12,9 +12,9 @@ use rules::{ChainPlace, Header, IpNumber, Kind, Range, Refusal};
 // An IP header with its extensions, what is left of its room behind them, and the number that names what follows.
 #[derive(Clone, Copy)]
 pub struct NetFound<'a> {
+    pub number: IpNumber,
     pub ip: IpPart,
     pub room: RoomSlice<'a>,
-    pub number: IpNumber,
 }
 
 // Where an extension chain ends.

@@ -6,10 +6,10 @@ use rules::RoomSource;
 // The place and the room's end count from the frame's start; `source` is what set that end.
 #[derive(Clone, Copy)]
 pub struct RoomSlice<'a> {
+    pub source: RoomSource,
     pub frame: &'a [u8],
     pub at: usize,
     pub end: usize,
-    pub source: RoomSource,
     ghost ordered: { at ≤ end },
     ghost inside: { end ≤ length frame.now },
 }
