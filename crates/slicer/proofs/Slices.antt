@@ -24,11 +24,12 @@ use Rattle.rules.specs.Walk.{slices}
 use Rattle.laws.specs.Gather.{gather, rest, rest_next, rest_halt}
 use Rattle.one_header.specs.declared.ip.IpKind.{IpKind}
 use Rattle.one_header.specs.declared.ip.IpKind.TheVariants as I
+use Rattle.one_header.specs.declared.link.LinkEnd.{LinkEnd}
 use Rattle.one_header.specs.declared.link.LinkEnd.TheVariants as D
 use Rattle.one_header.specs.Turns.{link_end_on_paper, ip_kind_of}
 use Rattle.slicer.specs.declared.link.LinkFound.{LinkFound}
 use Rattle.slicer.specs.Reply.{nothing, range, no_header, slots, accepted_by, Reply, reply_of, slice_way}
-use Rattle.slicer.specs.Legs.{on_turn, head_of, tags_from, link_parts, link_room, net_place, ending_by, LinkDone}
+use Rattle.slicer.specs.Legs.{on_turn, head_of, tags_from, link_parts, room_behind, behind_link, net_place, ending_by, LinkDone}
 use Rattle.slicer.proofs.ReadersAt.{toward}
 
 -- the promised reply is gathered from how the frame opens
@@ -75,26 +76,22 @@ all_slots (suc (suc (suc n))) =
 -- ---- behind the link
 
 -- the room that an IP header behind the link stands in counts it
-pub entering : (k : IpKind) (s : List ℕ) (x : LinkFound) → follow (link_end_on_paper (D.Opens k)) (link_room s x.tags) x.at (Link x.number) (length s)
-    ≡ next (net_place (ip_kind_of k) x.at (length s) x.tags 0 1 S.Slice false)
+entering : (k : IpKind) (x : LinkFound) → follow (link_end_on_paper (D.Opens k)) (room_behind x) x.room.at (Link x.number) x.room.end
+    ≡ next (net_place (ip_kind_of k) x.room.at x.room.end x.tags 0 1 x.room.source false)
 unfolding follow
-entering I.Ipv4 s x = refl
-entering I.Ipv6 s x = refl
+entering I.Ipv4 x = refl
+entering I.Ipv6 x = refl
 
-module _ {s : List ℕ} {before : Reply} {x : LinkFound} (w : LinkDone s before x) where
-  pub to_ip : {k : IpKind} → x.turn ≡ D.Opens k
-      → before ≡ gather slice_way (link_parts x.linked x.tags) s (net_place (ip_kind_of k) x.at (length s) x.tags 0 1 S.Slice false)
+module _ {before : Reply} (x : LinkFound) (w : LinkDone before x) where
+  at_turn : {e : LinkEnd} → x.turn ≡ e
+      → before ≡ on_turn x.room.frame.now (link_parts x.linked x.tags) (link_end_on_paper e) (room_behind x) x.room.at (Link x.number)
+  at_turn e = w ∙ toward x.room.frame.now (link_parts x.linked x.tags) (room_behind x) x.room.at (Link x.number) (ap link_end_on_paper e)
+
+  pub to_ip : {k : IpKind} → x.turn ≡ D.Opens k → before ≡ behind_link x k
   unfolding on_turn
-  to_ip {k} e =
-      w.left
-      ∙ toward s (link_parts x.linked x.tags) (link_room s x.tags) x.at (Link x.number) (ap link_end_on_paper e)
-      ∙ ap (rest slice_way (link_parts x.linked x.tags) s) (entering k s x)
-      ∙ rest_next slice_way _ s _
+  to_ip {k} e = at_turn e ∙ ap (rest slice_way (link_parts x.linked x.tags) x.room.frame.now) (entering k x) ∙ rest_next slice_way _ x.room.frame.now _
 
   pub to_stop : {stop : Stop} → x.turn ≡ D.Stops stop
-      → before ≡ accepted_by (link_parts x.linked x.tags) (ending_on_paper (ending_by (range x.at (length s - x.at)) (Link x.number) stop))
+      → before ≡ accepted_by (link_parts x.linked x.tags) (ending_on_paper (ending_by (range x.room.at (x.room.end - x.room.at)) (Link x.number) stop))
   unfolding on_turn follow
-  to_stop e =
-      w.left
-      ∙ toward s (link_parts x.linked x.tags) (link_room s x.tags) x.at (Link x.number) (ap link_end_on_paper e)
-      ∙ rest_halt slice_way _ s _
+  to_stop e = at_turn e ∙ rest_halt slice_way _ x.room.frame.now _

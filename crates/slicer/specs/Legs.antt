@@ -95,28 +95,37 @@ ending_by payload number stop = record { payload = payload; number = number; sto
 abbrev pub link_room : List ℕ → ℕ → Room
 link_room s tags = room (length s) tags 0 0 S.Slice false
 
+-- the room behind the link
+abbrev pub room_behind : LinkFound → Room
+room_behind x = room x.room.end x.tags 0 0 x.room.source false
+
 -- the reply from a link number on, with `tags` held
 abbrev pub on_link : List ℕ → ℕ → EtherType → ℕ → Reply
 on_link s tags number at = on_turn s (link_parts true tags) (link (link_room s tags) number.0) (link_room s tags) at (Link number)
 
-pub record LinkDone (s : List ℕ) (before : Reply) (x : LinkFound) : Type 0 where
-  pub left : before ≡ on_turn s (link_parts x.linked x.tags) (link_end_on_paper x.turn) (link_room s x.tags) x.at (Link x.number)
-  pub inside : x.at ≤ length s
+abbrev pub LinkDone : Reply → LinkFound → Type 0
+LinkDone before x =
+    before ≡ on_turn x.room.frame.now (link_parts x.linked x.tags) (link_end_on_paper x.turn) (room_behind x) x.room.at (Link x.number)
 
-abbrev pub Linking : List ℕ → Reply → Ends LinkFound → Type 0
-Linking s before = Went (LinkDone s before) (λ r. before ≡ refused_by r)
+abbrev pub Linking : Reply → Ends LinkFound → Type 0
+Linking before = Went (LinkDone before) (λ r. before ≡ refused_by r)
 
 abbrev pub Linked : List ℕ → Entry → Ends LinkFound → Type 0
-Linked s e = Linking s (rest slice_way nothing s (opening e s))
+Linked s e = Linking (rest slice_way nothing s (opening e s))
 
 abbrev pub Tagged : List ℕ → EtherType → Ends LinkFound → Type 0
-Tagged s first = Linking s (on_link s 0 first ethernet_length)
+Tagged s first = Linking (on_link s 0 first ethernet_length)
 
 -- ---- the net leg: whatever was found before (f), however many tags and IP headers are held (t, i), and whatever packet the header
 -- stands in (its version v and mark m)
 
 abbrev pub net_place : Kind → (at end t v i : ℕ) → RoomSource → Bool → Place
 net_place k at end t v i source m = place k at (room end t v i source m)
+
+-- the reply from an IP header behind the link on
+abbrev pub behind_link : LinkFound → IpKind → Reply
+behind_link x k =
+    gather slice_way (link_parts x.linked x.tags) x.room.frame.now (net_place (ip_kind_of k) x.room.at x.room.end x.tags 0 1 x.room.source false)
 
 -- the room behind the extensions of an IP header of kind k
 abbrev pub net_room : Kind → (end t i : ℕ) → RoomSource → Bool → Room

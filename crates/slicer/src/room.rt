@@ -1,7 +1,8 @@
-// Where a leg begins: the bytes of a frame from a place to its room's end.
-ghost use Rattle.std.specs.Prelude.{◌≤◌, length};
+// Where a leg begins and where it ends: the bytes of a frame from a place to its room's end.
+ghost use Rattle.std.specs.Prelude.{◌≡◌, ◌-◌, ◌≤◌, length};
+ghost use Rattle.slicer.specs.Reply.{range};
 
-use rules::RoomSource;
+use rules::{Range, RoomSource};
 
 // The place and the room's end count from the frame's start; `source` is what set that end.
 #[derive(Clone, Copy)]
@@ -12,4 +13,16 @@ pub struct RoomSlice<'a> {
     pub end: usize,
     ghost ordered: { at ≤ end },
     ghost inside: { end ≤ length frame.now },
+}
+
+impl RoomSlice<'_> {
+    // Those bytes as a payload.
+    pub fn payload(self) -> Range
+        ensures { result ≡ range self.entry.at (self.entry.end - self.entry.at) }
+    {
+        Range {
+            at: self.at,
+            len: self.end - self.at,
+        }
+    }
 }

@@ -14,13 +14,12 @@ pub struct TransportFound {
 }
 
 // The payload runs to the room's end.
-fn unopened(number: IpNumber, at: usize, end: usize, stop: Stop) -> TransportFound
-    requires { at ≤ end }
-    ensures { result ≡ stopped_at number at end stop }
+fn unopened(room: RoomSlice, number: IpNumber, stop: Stop) -> TransportFound
+    ensures { result ≡ stopped_at number room.entry.at room.entry.end stop }
 {
     TransportFound {
         ending: Ending {
-            payload: Range { at, len: end - at },
+            payload: room.payload(),
             number: Number::Ip(number),
             stop,
         },
@@ -57,7 +56,7 @@ pub fn slice_transport(
     ensures { Carried room.entry mark number (leg_on_paper result) }
 {
     match transport_turn(number, mark) {
-        TransportTurn::Stops(stop) => Ok(unopened(number, room.at, room.end, stop)),
+        TransportTurn::Stops(stop) => Ok(unopened(room, number, stop)),
         TransportTurn::Opens(kind) => {
             let x = transport_at(&room.frame[room.at..room.end], kind, room.at, room.source)?;
             Ok(opened(number, Kind::from(kind), room.at, x))

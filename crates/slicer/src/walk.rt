@@ -1,22 +1,18 @@
 // Slicing a frame: link, net and transport leg, then the reply in one piece.
-ghost use Rattle.std.specs.Prelude.{◌≡◌, Ok, false, ◌≤◌, length};
+ghost use Rattle.std.specs.Prelude.{◌≡◌, Ok};
 ghost use Rattle.rules.specs.declared.entry.Entry.TheVariants as E;
-ghost use Rattle.rules.specs.declared.kind.RoomSource.TheVariants as S;
 ghost use Rattle.rules.specs.Numbers.{ethernet_length, tag_limit};
 ghost use Rattle.rules.specs.Place.{ending_on_paper};
-ghost use Rattle.laws.specs.Gather.{gather};
-ghost use Rattle.one_header.specs.Turns.{ip_kind_of};
-ghost use Rattle.slicer.specs.Reply.{packet_on_paper, accepted_by, reply_of, slots, slice_way};
-ghost use Rattle.slicer.specs.Legs.{tags_from, link_parts, found_by, net_place};
+ghost use Rattle.slicer.specs.Reply.{packet_on_paper, accepted_by, reply_of, slots};
+ghost use Rattle.slicer.specs.Legs.{tags_from, found_by, behind_link};
 
 use crate::link::{LinkFound, slice_link};
 use crate::net::slice_ip;
 use crate::packet::{IpPart, SlicedPacket};
-use crate::room::RoomSlice;
 use crate::transport::slice_transport;
 use one_header::{IpKind, LinkEnd};
 use rules::ether_type::TAG_LIMIT;
-use rules::{Ending, Entry, Header, Kind, Number, Range, Refusal, RoomSource, length};
+use rules::{Ending, Entry, Header, Kind, Number, Refusal, length};
 use std::array;
 
 // Tags stand one behind the other from the Ethernet header on, so their count tells where each is.
@@ -43,7 +39,7 @@ fn accepted(
     transport: Option<Header>,
     ending: Ending,
 ) -> SlicedPacket
-    ensures { packet_on_paper (Ok result) ≡ accepted_by (found_by front net transport) (ending_on_paper ending) }
+    ensures { packet_on_paper (Ok result) ≡ accepted_by (found_by front.entry net transport) (ending_on_paper ending) }
 {
     SlicedPacket {
         tags: tag_headers(front.tags),
@@ -60,17 +56,10 @@ fn accepted(
 }
 
 // From an IP header behind the link on.
-fn behind_link(s: &[u8], front: LinkFound, kind: IpKind) -> Result<SlicedPacket, Refusal>
-    requires { front.at ≤ length s.now }
-    ensures { packet_on_paper result ≡ gather slice_way (link_parts front.linked front.tags) s.now (net_place (ip_kind_of kind) front.at (length s.now) front.tags 0 1 S.Slice false) }
+fn behind_link(front: LinkFound, kind: IpKind) -> Result<SlicedPacket, Refusal>
+    ensures { packet_on_paper result ≡ behind_link front.entry kind }
 {
-    let room = RoomSlice {
-        frame: s,
-        at: front.at,
-        end: s.len(),
-        source: RoomSource::Slice,
-    };
-    let net = slice_ip(room, kind)?;
+    let net = slice_ip(front.room, kind)?;
     let found = slice_transport(net.room, net.number, net.ip.fragmented)?;
     Ok(accepted(front, Some(net.ip), found.transport, found.ending))
 }
@@ -82,13 +71,10 @@ pub fn slice(s: &[u8], entry: Entry) -> Result<SlicedPacket, Refusal>
 {
     let front = slice_link(s, entry)?;
     match front.turn {
-        LinkEnd::Opens(kind) => behind_link(s, front, kind),
+        LinkEnd::Opens(kind) => behind_link(front, kind),
         LinkEnd::Stops(stop) => {
             let ending = Ending {
-                payload: Range {
-                    at: front.at,
-                    len: s.len() - front.at,
-                },
+                payload: front.room.payload(),
                 number: Number::Link(front.number),
                 stop,
             };

@@ -12,8 +12,9 @@ returns-in_err-front-clause-reply c =
 
 pub returns-in-Opens-clause-reply : goal.returns-in-Opens-clause-reply
 returns-in-Opens-clause-reply c =
-    c.behind_link.ensures ∙ sym (reply_is _ c.args.s.now ∙ to_ip (there c.in_ok-front.ensures) c.in-Opens.is)
+    c.behind_link.ensures ∙ sym (reply_is _ c.args.s.now ∙ to_ip c.in_ok-front.front (there c.in_ok-front.ensures) c.in-Opens.is)
 
 pub returns-in-Stops-clause-reply : goal.returns-in-Stops-clause-reply
 returns-in-Stops-clause-reply c =
-    c.accepted.ensures ∙ sym (reply_is _ c.args.s.now ∙ to_stop (there c.in_ok-front.ensures) c.in-Stops.is)
+    c.accepted.ensures
+    ∙ rw c.payload.ensures (sym (reply_is _ c.args.s.now ∙ to_stop c.in_ok-front.front (there c.in_ok-front.ensures) c.in-Stops.is))
