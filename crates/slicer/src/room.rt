@@ -8,9 +8,9 @@ use rules::{Range, RoomSource};
 #[derive(Clone, Copy)]
 pub struct RoomSlice<'a> {
     pub source: RoomSource,
-    pub frame: &'a [u8],
     pub at: usize,
     pub end: usize,
+    pub frame: &'a [u8],
     ghost ordered: { at ≤ end },
     ghost inside: { end ≤ length frame.now },
 }

@@ -9,8 +9,8 @@ use rules::{Ending, Header, IpNumber, Kind, Number, Range, Refusal, Stop};
 
 #[derive(Clone, Copy)]
 pub struct TransportFound {
-    pub ending: Ending,
     pub transport: Option<Header>,
+    pub ending: Ending,
 }
 
 // The payload runs to the room's end.
