@@ -91,7 +91,7 @@ fn ip_exts_slice(
     }
 }
 
-pub fn slice_ip<'a>(room: RoomSlice<'a>, kind: IpKind) -> Result<NetFound<'a>, Refusal>
+pub fn slice_ip(room: RoomSlice<'_>, kind: IpKind) -> Result<NetFound<'_>, Refusal>
     ensures { Netted room.entry (ip_kind_of kind) (leg_on_paper result) }
 {
     let x = ip_at(&room.frame[room.at..room.end], kind, room.at, room.source)?;

@@ -4,7 +4,8 @@ ghost use Rattle.slicer.specs.Reply.{range};
 
 use rules::{Range, RoomSource};
 
-// The place and the room's end count from the frame's start; `source` is what set that end.
+// The place and the room's end count from the frame's start; `source` is what set that end. In another order of fields a slice takes
+// more: 254 to 255 instructions for 251, or two more an extension (docs/SPEED.md, One home for one header).
 #[derive(Clone, Copy)]
 pub struct RoomSlice<'a> {
     pub source: RoomSource,

@@ -7,6 +7,7 @@ use headers::TransportHeader;
 use one_header::{TransportTurn, stop_behind, transport_at, transport_turn};
 use rules::{Ending, Header, IpNumber, Kind, Number, Range, Refusal, Stop};
 
+// In the other order of fields a slice takes 251 instructions for 244.
 #[derive(Clone, Copy)]
 pub struct TransportFound {
     pub transport: Option<Header>,

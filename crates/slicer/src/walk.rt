@@ -55,7 +55,7 @@ fn accepted(
     }
 }
 
-// From an IP header behind the link on.
+// From an IP header behind the link on. Apart from `slice`, whose two ways would call `accepted` twice: it takes 401 instructions then for 250.
 fn behind_link(front: LinkFound, kind: IpKind) -> Result<SlicedPacket, Refusal>
     ensures { packet_on_paper result ≡ behind_link front.entry kind }
 {
