@@ -1,11 +1,12 @@
 // Extension headers at a place, and where a number of an IPv6 chain leads.
 ghost use Rattle.std.specs.Prelude.{◌≡◌, ℕ};
-ghost use Rattle.headers.specs.Says.{read_on_paper, ext_says};
+ghost use Rattle.headers.specs.Says.{ext_says};
 ghost use Rattle.one_header.specs.At.{at_on_paper, placing};
 ghost use Rattle.one_header.specs.Turns.{ext_kind_of, ext_turn};
 
+use crate::place::placed;
 use headers::ExtHeader;
-use rules::{ChainPlace, Fault, IpNumber, Kind, Refusal, RoomSource, ip_number};
+use rules::{ChainPlace, IpNumber, Kind, Refusal, RoomSource, ip_number};
 
 #[derive(Clone, Copy)]
 pub enum ExtKind {
@@ -30,23 +31,17 @@ impl From<ExtKind> for Kind {
     }
 }
 
-fn read_ext(w: &[u8], kind: ExtKind) -> Result<ExtHeader, Fault>
-    ensures { (v : ℕ) → read_on_paper result ≡ ext_says (ext_kind_of kind) v w.now }
-{
-    match kind {
-        ExtKind::HopByHop => headers::read_raw_ext(w, Kind::HopByHop),
-        ExtKind::Routing => headers::read_raw_ext(w, Kind::Routing),
-        ExtKind::Destination => headers::read_raw_ext(w, Kind::Destination),
-        ExtKind::Fragment => headers::read_fragment(w),
-        ExtKind::Auth => headers::read_auth(w),
-    }
-}
-
 pub fn ext_at(w: &[u8], kind: ExtKind, at: usize, source: RoomSource) -> Result<ExtHeader, Refusal>
     ensures answer { (v : ℕ) → at_on_paper result ≡ placing (ext_says (ext_kind_of kind) v w.now) at source }
     ensures unwritten { w.exit.now ≡ w.entry.now }
 {
-    read_ext(w, kind).map_err(|fault| fault.at(at, source))
+    match kind {
+        ExtKind::HopByHop => placed(headers::read_raw_ext(w, Kind::HopByHop), at, source),
+        ExtKind::Routing => placed(headers::read_raw_ext(w, Kind::Routing), at, source),
+        ExtKind::Destination => placed(headers::read_raw_ext(w, Kind::Destination), at, source),
+        ExtKind::Fragment => placed(headers::read_fragment(w), at, source),
+        ExtKind::Auth => placed(headers::read_auth(w), at, source),
+    }
 }
 
 // A number of a chain: an extension, a hop-by-hop header that is not at the start, or the chain's end.

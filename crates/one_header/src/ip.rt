@@ -5,6 +5,7 @@ ghost use Rattle.headers.specs.Says.{read_on_paper, ip_says};
 ghost use Rattle.one_header.specs.At.{at_on_paper, placing, over, setting};
 ghost use Rattle.one_header.specs.Turns.{ip_kind_of, sets_of, version_of};
 
+use crate::place::placed;
 use headers::IpHeader;
 use rules::{Fault, Fragment, IpNumber, Kind, Refusal, RoomSource, ip_number};
 
@@ -78,21 +79,29 @@ fn set_room(x: IpHeader, have: usize, sets: RoomSource, source: RoomSource) -> I
     }
 }
 
-fn read_ip(w: &[u8], kind: IpKind) -> Result<IpHeader, Fault>
-    ensures { (v : ℕ) → read_on_paper result ≡ ip_says (ip_kind_of kind) v w.now }
+// What was read of a header of this kind, at its place, in a room that ends `have` bytes from it.
+fn place_ip(
+    read: Result<IpHeader, Fault>,
+    have: usize,
+    kind: IpKind,
+    at: usize,
+    source: RoomSource,
+) -> Result<IpFound, Refusal>
+    ensures { at_on_paper result ≡ placing (over (λ x. setting x have (sets_of kind) source) (read_on_paper read)) at source }
 {
-    match kind {
-        IpKind::Ipv4 => headers::read_ipv4(w),
-        IpKind::Ipv6 => headers::read_ipv6(w),
-    }
+    let x = placed(read, at, source)?;
+    Ok(set_room(x, have, RoomSource::from(kind), source))
 }
 
 pub fn ip_at(w: &[u8], kind: IpKind, at: usize, source: RoomSource) -> Result<IpFound, Refusal>
     ensures answer { (v : ℕ) → at_on_paper result ≡ placing (over (λ x. setting x (length w.now) (sets_of kind) source) (ip_says (ip_kind_of kind) v w.now)) at source }
     ensures unwritten { w.exit.now ≡ w.entry.now }
 {
-    let x = read_ip(w, kind).map_err(|fault| fault.at(at, source))?;
-    Ok(set_room(x, w.len(), RoomSource::from(kind), source))
+    let have = w.len();
+    match kind {
+        IpKind::Ipv4 => place_ip(headers::read_ipv4(w), have, IpKind::Ipv4, at, source),
+        IpKind::Ipv6 => place_ip(headers::read_ipv6(w), have, IpKind::Ipv6, at, source),
+    }
 }
 
 // Whether an IPv4 header's number opens its one AUTH header.

@@ -7,6 +7,7 @@ mod ext;
 mod header;
 mod ip;
 mod link;
+mod place;
 mod transport;
 
 pub use ext::{ExtKind, ExtTurn, ext_at, ext_turn};

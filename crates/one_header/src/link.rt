@@ -2,27 +2,19 @@
 ghost use Rattle.std.specs.Prelude.{◌≡◌, ℕ};
 ghost use Rattle.rules.specs.declared.place.Room.{Room as R};
 ghost use Rattle.rules.specs.Rules.{is_tag, link};
-ghost use Rattle.headers.specs.Says.{read_on_paper, link_says};
+ghost use Rattle.headers.specs.Says.{link_says};
 ghost use Rattle.one_header.specs.At.{at_on_paper, placing};
 ghost use Rattle.one_header.specs.Turns.{link_kind_of, link_turn_on_paper};
 
 use crate::ip::IpKind;
+use crate::place::placed;
 use rules::ether_type::TAG_LIMIT;
-use rules::{EtherType, Fault, Kind, Refusal, RoomSource, Stop, Turn, ether_type};
+use rules::{EtherType, Kind, Refusal, RoomSource, Stop, Turn, ether_type};
 
 #[derive(Clone, Copy)]
 pub enum LinkKind {
     Ethernet2,
     Vlan,
-}
-
-fn read_link(w: &[u8], kind: LinkKind) -> Result<EtherType, Fault>
-    ensures { (v : ℕ) → read_on_paper result ≡ link_says (link_kind_of kind) v w.now }
-{
-    match kind {
-        LinkKind::Ethernet2 => headers::read_ethernet2(w),
-        LinkKind::Vlan => headers::read_vlan(w),
-    }
 }
 
 // A link header tells the EtherType that it names.
@@ -35,7 +27,10 @@ pub fn link_at(
     ensures answer { (v : ℕ) → at_on_paper result ≡ placing (link_says (link_kind_of kind) v w.now) at source }
     ensures unwritten { w.exit.now ≡ w.entry.now }
 {
-    read_link(w, kind).map_err(|fault| fault.at(at, source))
+    match kind {
+        LinkKind::Ethernet2 => placed(headers::read_ethernet2(w), at, source),
+        LinkKind::Vlan => placed(headers::read_vlan(w), at, source),
+    }
 }
 
 // What ends a tag walk: an IP header, or a stop.

@@ -7,8 +7,9 @@ ghost use Rattle.headers.specs.Says.{read_on_paper};
 ghost use Rattle.one_header.specs.At.{at_on_paper, placing, transport_says};
 ghost use Rattle.one_header.specs.Turns.{transport_kind_of, transport_turn_on_paper};
 
+use crate::place::placed;
 use headers::TransportHeader;
-use rules::{Fault, IpNumber, Kind, Refusal, RoomSource, Stop, Turn, ip_number};
+use rules::{IpNumber, Kind, Refusal, RoomSource, Stop, Turn, ip_number};
 
 #[derive(Clone, Copy)]
 pub enum TransportKind {
@@ -27,15 +28,6 @@ impl From<TransportKind> for Kind {
     }
 }
 
-fn read_transport(w: &[u8], kind: TransportKind) -> Result<TransportHeader, Fault>
-    ensures { (v : ℕ) → read_on_paper result ≡ transport_says kind v w.now }
-{
-    match kind {
-        TransportKind::Udp => headers::read_udp(w),
-        TransportKind::Tcp => headers::read_tcp(w),
-    }
-}
-
 pub fn transport_at(
     w: &[u8],
     kind: TransportKind,
@@ -45,7 +37,10 @@ pub fn transport_at(
     ensures answer { (v : ℕ) → at_on_paper result ≡ placing (transport_says kind v w.now) at source }
     ensures unwritten { w.exit.now ≡ w.entry.now }
 {
-    read_transport(w, kind).map_err(|fault| fault.at(at, source))
+    match kind {
+        TransportKind::Udp => placed(headers::read_udp(w), at, source),
+        TransportKind::Tcp => placed(headers::read_tcp(w), at, source),
+    }
 }
 
 // Why a walk stops behind a transport header.

@@ -16,6 +16,7 @@ use Rattle.rules.specs.declared.place.Room.{Room}
 use Rattle.rules.specs.declared.refusal.Row.{Row}
 use Rattle.rules.specs.Bytes.{part}
 use Rattle.rules.specs.Numbers.{auth_number}
+use Rattle.rules.specs.Named.{kind_number}
 use Rattle.rules.specs.Fields.{marking}
 use Rattle.rules.specs.Rules.{rule}
 use Rattle.rules.specs.Place.{place, room, follow}
@@ -31,7 +32,7 @@ use Rattle.one_header.specs.At.{Placed, here, refused, placing, over, setting}
 use Rattle.one_header.specs.Header.{ip_header, ext_header}
 use Rattle.slicer.specs.Reply.{Parts, refused_by, slice_way, with_net, ip_part}
 use Rattle.slicer.specs.declared.net.ExtsFound.{ExtsFound}
-use Rattle.slicer.specs.Legs.{on_turn, on_first, head_of, net_place, net_room, NetDone, ExtsDone}
+use Rattle.slicer.specs.Legs.{on_turn, on_first, head_of, net_place, net_room, on_transport, ExtsDone}
 use Rattle.slicer.proofs.ReadersAt.{Reads, made, whole_is, no, within, ipv4-read, ipv6-read, auth_read, back, toward}
 
 -- ---- an IP header of either version
@@ -80,15 +81,10 @@ module _ {s : List ℕ} {k : IpKind} {at end : ℕ} {source : RoomSource} {o : P
           behind I.Ipv4 y = whole_is f y ∙ rw me refl
           behind I.Ipv6 y = whole_is f y ∙ rw me refl
 
-      pub ip_done : {kind : Kind} {y : ExtsFound} → kind ≡ ip_kind_of k → ExtsDone s (ip_kind_of k) x.names (at + x.len) (at + x.end) x.source mark y
-          → NetDone s (ip_kind_of k) at end source
-          (record { kind = kind; begin = at; len = x.len; at = y.at; end = at + x.end; source = x.source; number = y.number; mark = y.mark })
-      ip_done ke w = rw ke record {
-        left = λ f t v i m. ip_on f t v i m ∙ w.left f _ t i;
-        headed = w.headed;
-        inside = w.inside;
-        room = omega (arith, ip_in.1, ip_in.2);
-      }
+      pub ip_done : {kind : ℕ} {y : ExtsFound} → kind ≡ kind_number (ip_kind_of k) → ExtsDone s (ip_kind_of k) x.names (at + x.len) (at + x.end) x.source mark y
+          → (f : Parts) (t v i : ℕ) (m : Bool) → gather slice_way f s (net_place (ip_kind_of k) at end t v i source m)
+          ≡ on_transport s (with_net f (ip_part (record { kind = kind; at = at; len = x.len }) (at + x.len) y.at y.mark)) (inner k at x y.mark t i) y.number y.at
+      ip_done ke w f t v i m = rw ke (ip_on f t v i m ∙ w.left f _ t i)
 
       pub ip_stuck : {r : Row} → ((f : Parts) (g : Header) (t i : ℕ) → on_first s (ip_kind_of k) f g (at + x.len) (inner k at x mark t i) x.names ≡ refused_by r)
           → (f : Parts) (t v i : ℕ) (m : Bool) → gather slice_way f s (net_place (ip_kind_of k) at end t v i source m) ≡ refused_by r

@@ -1,6 +1,7 @@
 -- What each leg of the walk promises: the reply from where it begins is its refusal's, or the reply from where it ends, with
 -- what it found put in.
 use Rattle.std.specs.Prelude.{ℕ, zero, suc, ◌+◌, ◌-◌, ◌≤◌, ◌≡◌, List, [], ◌∷◌, Bool, true, false, length, Option, None, Some, Result, Ok, Err}
+use Rattle.std.specs.Bool.{then_some}
 use Rattle.rules.specs.declared.entry.Entry.{Entry}
 use Rattle.rules.specs.declared.ether_type.EtherType.{EtherType}
 use Rattle.rules.specs.declared.ip_number.IpNumber.{IpNumber}
@@ -35,6 +36,7 @@ use Rattle.one_header.specs.declared.ip.IpKind.{IpKind}
 use Rattle.one_header.specs.At.{Placed, placing, over, setting}
 use Rattle.one_header.specs.Turns.{ip_kind_of, sets_of, first_turn, link_end_on_paper}
 use Rattle.slicer.specs.declared.packet.IpPart.{IpPart}
+use Rattle.slicer.specs.declared.room.RoomSlice.{RoomSlice}
 use Rattle.slicer.specs.declared.link.LinkFound.{LinkFound}
 use Rattle.slicer.specs.declared.net.NetFound.{NetFound}
 use Rattle.slicer.specs.declared.net.ExtsFound.{ExtsFound}
@@ -75,7 +77,7 @@ ethernet_header = record { kind = kind_number Ethernet2; at = 0; len = ethernet_
 abbrev pub parts_of : (linked : Bool) (tags : ℕ) → Option IpPart → Option Header → Parts
 parts_of linked tags net transport =
     record {
-      link = pick linked (with_link nothing ethernet_header).link nothing.link;
+      link = then_some linked ethernet_header;
       tags = tags_from ethernet_length tags;
       net = net;
       transport = transport;
@@ -93,29 +95,37 @@ ending_by payload number stop = record { payload = payload; number = number; sto
 abbrev pub link_room : List ℕ → ℕ → Room
 link_room s tags = room (length s) tags 0 0 S.Slice false
 
+-- the room behind the link
+abbrev pub room_behind : LinkFound → Room
+room_behind x = room x.room.end x.tags 0 0 x.room.source false
+
 -- the reply from a link number on, with `tags` held
 abbrev pub on_link : List ℕ → ℕ → EtherType → ℕ → Reply
 on_link s tags number at = on_turn s (link_parts true tags) (link (link_room s tags) number.0) (link_room s tags) at (Link number)
 
-pub record LinkDone (s : List ℕ) (before : Reply) (x : LinkFound) : Type 0 where
-  pub left : before ≡ on_turn s (link_parts x.linked x.tags) (link_end_on_paper x.turn) (link_room s x.tags) x.at (Link x.number)
-  pub inside : x.at ≤ length s
-  pub few : x.tags ≤ tag_limit
+abbrev pub LinkDone : Reply → LinkFound → Type 0
+LinkDone before x =
+    before ≡ on_turn x.room.frame.now (link_parts x.linked x.tags) (link_end_on_paper x.turn) (room_behind x) x.room.at (Link x.number)
 
-abbrev pub Linking : List ℕ → Reply → Ends LinkFound → Type 0
-Linking s before = Went (LinkDone s before) (λ r. before ≡ refused_by r)
+abbrev pub Linking : Reply → Ends LinkFound → Type 0
+Linking before = Went (LinkDone before) (λ r. before ≡ refused_by r)
 
 abbrev pub Linked : List ℕ → Entry → Ends LinkFound → Type 0
-Linked s e = Linking s (rest slice_way nothing s (opening e s))
+Linked s e = Linking (rest slice_way nothing s (opening e s))
 
 abbrev pub Tagged : List ℕ → EtherType → Ends LinkFound → Type 0
-Tagged s first = Linking s (on_link s 0 first ethernet_length)
+Tagged s first = Linking (on_link s 0 first ethernet_length)
 
 -- ---- the net leg: whatever was found before (f), however many tags and IP headers are held (t, i), and whatever packet the header
 -- stands in (its version v and mark m)
 
 abbrev pub net_place : Kind → (at end t v i : ℕ) → RoomSource → Bool → Place
 net_place k at end t v i source m = place k at (room end t v i source m)
+
+-- the reply from an IP header behind the link on
+abbrev pub behind_link : LinkFound → IpKind → Reply
+behind_link x k =
+    gather slice_way (link_parts x.linked x.tags) x.room.frame.now (net_place (ip_kind_of k) x.room.at x.room.end x.tags 0 1 x.room.source false)
 
 -- the room behind the extensions of an IP header of kind k
 abbrev pub net_room : Kind → (end t i : ℕ) → RoomSource → Bool → Room
@@ -128,23 +138,12 @@ on_transport s f p number at = on_turn s f (transport p number.0) p at (Ip numbe
 abbrev pub head_of : Kind → (at len : ℕ) → Header
 head_of k at len = record { kind = kind_number k; at = at; len = len }
 
-abbrev pub found_ip : NetFound → Parts → Parts
-found_ip x f = with_net f (ip_part (head_of x.kind x.begin x.len) (x.begin + x.len) x.at x.mark)
-
-pub record NetDone (s : List ℕ) (k : Kind) (at end : ℕ) (source : RoomSource) (x : NetFound) : Type 0 where
-  pub left : (f : Parts) (t v i : ℕ) (m : Bool) → gather slice_way f s (net_place k at end t v i source m)
-      ≡ on_transport s (found_ip x f) (net_room k x.end t i x.source x.mark) x.number x.at
-  pub headed : x.begin + x.len ≤ x.at
-  pub inside : x.at ≤ x.end
-  pub room : x.end ≤ length s
-
-abbrev pub Netted : List ℕ → Kind → (at end : ℕ) → RoomSource → Ends NetFound → Type 0
-Netted s k at end source =
-    Went (NetDone s k at end source) (λ r. (f : Parts) (t v i : ℕ) (m : Bool) → gather slice_way f s (net_place k at end t v i source m) ≡ refused_by r)
-
--- an IP header at a place, as `one_header` answers it
-pub record IpAnswer (w : List ℕ) (k : IpKind) (at : ℕ) (source : RoomSource) (o : Placed IpFound) : Type 0 where
-  pub is : (v : ℕ) → o ≡ placing (over (λ x. setting x (length w) (sets_of k) source) (ip_says (ip_kind_of k) v w)) at source
+abbrev pub Netted : RoomSlice → Kind → Ends NetFound → Type 0
+Netted r k =
+    Went
+    (λ x. (f : Parts) (t v i : ℕ) (m : Bool) → gather slice_way f r.frame.now (net_place k r.at r.end t v i r.source m)
+    ≡ on_transport x.room.frame.now (with_net f x.ip) (net_room k x.room.end t i x.room.source x.ip.fragmented) x.number x.room.at)
+    (λ q. (f : Parts) (t v i : ℕ) (m : Bool) → gather slice_way f r.frame.now (net_place k r.at r.end t v i r.source m) ≡ refused_by q)
 
 -- ---- the extensions of an IP header h of kind k, from the offset `from` on
 
@@ -163,10 +162,10 @@ pub record ExtsDone (s : List ℕ) (k : Kind) (begin : IpNumber) (from end : ℕ
   pub headed : from ≤ x.at
   pub inside : x.at ≤ end
 
-abbrev pub Extended : List ℕ → Kind → IpNumber → (from end : ℕ) → RoomSource → Bool → Ends ExtsFound → Type 0
-Extended s k begin from end source marked =
-    Went (ExtsDone s k begin from end source marked)
-    (λ r. (f : Parts) (h : Header) (t i : ℕ) → on_first s k f h from (net_room k end t i source marked) begin ≡ refused_by r)
+abbrev pub Extended : RoomSlice → Kind → IpNumber → Bool → Ends ExtsFound → Type 0
+Extended r k begin marked =
+    Went (ExtsDone r.frame.now k begin r.at r.end r.source marked)
+    (λ q. (f : Parts) (h : Header) (t i : ℕ) → on_first r.frame.now k f h r.at (net_room k r.end t i r.source marked) begin ≡ refused_by q)
 
 -- ---- the transport leg: whatever IP header it stands behind (k), whatever was found before (f)
 
@@ -181,9 +180,9 @@ opened_at number k at x =
       transport = Some (head_of k at x.len);
     }
 
-abbrev pub Carried : List ℕ → ℕ → RoomSource → Bool → IpNumber → ℕ → Ends TransportFound → Type 0
-Carried s end source mark number at =
+abbrev pub Carried : RoomSlice → Bool → IpNumber → Ends TransportFound → Type 0
+Carried r mark number =
     Went
     (λ x. (f : Parts) (k : Kind) (t i : ℕ) → f.transport ≡ None
-    → on_transport s f (net_room k end t i source mark) number at ≡ accepted_by (with_transport f x.transport) (ending_on_paper x.ending))
-    (λ r. (f : Parts) (k : Kind) (t i : ℕ) → on_transport s f (net_room k end t i source mark) number at ≡ refused_by r)
+    → on_transport r.frame.now f (net_room k r.end t i r.source mark) number r.at ≡ accepted_by (with_transport f x.transport) (ending_on_paper x.ending))
+    (λ q. (f : Parts) (k : Kind) (t i : ℕ) → on_transport r.frame.now f (net_room k r.end t i r.source mark) number r.at ≡ refused_by q)

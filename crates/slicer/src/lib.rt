@@ -6,6 +6,7 @@ mod link;
 mod net;
 mod options;
 pub mod packet;
+mod room;
 mod transport;
 mod walk;
 

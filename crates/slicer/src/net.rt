@@ -1,24 +1,20 @@
 // The net leg: an IPv4 header with its AUTH, or an IPv6 header with its extensions, up to the number that ends them. It takes the
 // room that its header stands in.
-ghost use Rattle.std.specs.Prelude.{◌≤◌, length};
 ghost use Rattle.rules.specs.declared.kind.Kind.TheVariants as K;
 ghost use Rattle.one_header.specs.Turns.{ip_kind_of};
 ghost use Rattle.slicer.specs.Legs.{Extended, Netted, leg_on_paper};
 
+use crate::packet::IpPart;
+use crate::room::RoomSlice;
 use one_header::{ExtKind, ExtTurn, IpKind, ext_at, ext_turn, ip_at, opens_auth};
-use rules::{ChainPlace, IpNumber, Kind, Refusal, RoomSource};
+use rules::{ChainPlace, Header, IpNumber, Kind, Range, Refusal};
 
-// An IP header, where its extensions end and its room ends, and the number that names what follows.
+// An IP header with its extensions, what is left of its room behind them, and the number that names what follows.
 #[derive(Clone, Copy)]
-pub struct NetFound {
-    pub kind: Kind,
-    pub begin: usize,
-    pub len: usize,
-    pub at: usize,
-    pub end: usize,
-    pub source: RoomSource,
+pub struct NetFound<'a> {
     pub number: IpNumber,
-    pub mark: bool,
+    pub ip: IpPart,
+    pub room: RoomSlice<'a>,
 }
 
 // Where an extension chain ends.
@@ -30,52 +26,41 @@ pub struct ExtsFound {
 }
 
 // IPv4 opens AUTH at most, and once.
-fn ipv4_exts_slice(
-    s: &[u8],
-    begin: IpNumber,
-    from: usize,
-    end: usize,
-    source: RoomSource,
-    marked: bool,
-) -> Result<ExtsFound, Refusal>
-    requires { (from ≤ end) × (end ≤ length s.now) }
-    ensures { Extended s.now K.Ipv4 begin from end source marked (leg_on_paper result) }
+fn ipv4_exts_slice(room: RoomSlice, begin: IpNumber, marked: bool) -> Result<ExtsFound, Refusal>
+    ensures { Extended room.entry K.Ipv4 begin marked (leg_on_paper result) }
 {
     if !opens_auth(begin) {
         return Ok(ExtsFound {
-            at: from,
+            at: room.at,
             number: begin,
             mark: marked,
         });
     }
-    let x = ext_at(&s[from..end], ExtKind::Auth, from, source)?;
+    let x = ext_at(
+        &room.frame[room.at..room.end],
+        ExtKind::Auth,
+        room.at,
+        room.source,
+    )?;
     Ok(ExtsFound {
-        at: from + x.len,
+        at: room.at + x.len,
         number: x.names,
         mark: x.fragment.marks(marked),
     })
 }
 
 // A loop, so that the stack does not grow with the chain.
-fn ipv6_exts_slice(
-    s: &[u8],
-    begin: IpNumber,
-    from: usize,
-    end: usize,
-    source: RoomSource,
-    marked: bool,
-) -> Result<ExtsFound, Refusal>
-    requires { (from ≤ end) × (end ≤ length s.now) }
-    ensures { Extended s.now K.Ipv6 begin from end source marked (leg_on_paper result) }
+fn ipv6_exts_slice(room: RoomSlice, begin: IpNumber, marked: bool) -> Result<ExtsFound, Refusal>
+    ensures { Extended room.entry K.Ipv6 begin marked (leg_on_paper result) }
 {
     let mut number = begin;
-    let mut at = from;
+    let mut at = room.at;
     let mut mark = marked;
     let mut place = ChainPlace::Directly;
     loop {
         match ext_turn(number, place) {
             ExtTurn::Opens(kind) => {
-                let x = ext_at(&s[at..end], kind, at, source)?;
+                let x = ext_at(&room.frame[at..room.end], kind, at, room.source)?;
                 number = x.names;
                 at += x.len;
                 mark = x.fragment.marks(mark);
@@ -93,45 +78,49 @@ fn ipv6_exts_slice(
 
 // The extensions of an IP header of a version, from the number that it names on.
 fn ip_exts_slice(
-    s: &[u8],
+    room: RoomSlice,
     kind: IpKind,
     begin: IpNumber,
-    from: usize,
-    end: usize,
-    source: RoomSource,
     marked: bool,
 ) -> Result<ExtsFound, Refusal>
-    requires { (from ≤ end) × (end ≤ length s.now) }
-    ensures { Extended s.now (ip_kind_of kind) begin from end source marked (leg_on_paper result) }
+    ensures { Extended room.entry (ip_kind_of kind) begin marked (leg_on_paper result) }
 {
     match kind {
-        IpKind::Ipv4 => ipv4_exts_slice(s, begin, from, end, source, marked),
-        IpKind::Ipv6 => ipv6_exts_slice(s, begin, from, end, source, marked),
+        IpKind::Ipv4 => ipv4_exts_slice(room, begin, marked),
+        IpKind::Ipv6 => ipv6_exts_slice(room, begin, marked),
     }
 }
 
-pub fn slice_ip(
-    s: &[u8],
-    kind: IpKind,
-    at: usize,
-    end: usize,
-    source: RoomSource,
-) -> Result<NetFound, Refusal>
-    requires { (at ≤ end) × (end ≤ length s.now) }
-    ensures { Netted s.now (ip_kind_of kind) at end source (leg_on_paper result) }
+pub fn slice_ip(room: RoomSlice<'_>, kind: IpKind) -> Result<NetFound<'_>, Refusal>
+    ensures { Netted room.entry (ip_kind_of kind) (leg_on_paper result) }
 {
-    let x = ip_at(&s[at..end], kind, at, source)?;
-    let inner = at + x.end;
-    let mark = x.fragment.marks(false);
-    let exts = ip_exts_slice(s, kind, x.names, at + x.len, inner, x.source, mark)?;
-    Ok(NetFound {
-        kind: Kind::from(kind),
-        begin: at,
-        len: x.len,
-        at: exts.at,
-        end: inner,
+    let x = ip_at(&room.frame[room.at..room.end], kind, room.at, room.source)?;
+    let inner = RoomSlice {
+        frame: room.frame,
+        at: room.at + x.len,
+        end: room.at + x.end,
         source: x.source,
+    };
+    let exts = ip_exts_slice(inner, kind, x.names, x.fragment.marks(false))?;
+    Ok(NetFound {
+        ip: IpPart {
+            header: Header {
+                kind: Kind::from(kind).number(),
+                at: room.at,
+                len: x.len,
+            },
+            exts: Range {
+                at: inner.at,
+                len: exts.at - inner.at,
+            },
+            fragmented: exts.mark,
+        },
+        room: RoomSlice {
+            frame: inner.frame,
+            at: exts.at,
+            end: inner.end,
+            source: inner.source,
+        },
         number: exts.number,
-        mark: exts.mark,
     })
 }

@@ -1,25 +1,26 @@
 // The transport leg: a UDP or TCP header, or why none is opened.
-ghost use Rattle.std.specs.Prelude.{◌≡◌, ◌+◌, ◌≤◌, ◌<◌, ◌^◌, length};
+ghost use Rattle.std.specs.Prelude.{◌≡◌, ◌+◌, ◌≤◌, ◌<◌, ◌^◌};
 ghost use Rattle.slicer.specs.Legs.{Carried, leg_on_paper, opened_at, stopped_at};
 
+use crate::room::RoomSlice;
 use headers::TransportHeader;
 use one_header::{TransportTurn, stop_behind, transport_at, transport_turn};
-use rules::{Ending, Header, IpNumber, Kind, Number, Range, Refusal, RoomSource, Stop};
+use rules::{Ending, Header, IpNumber, Kind, Number, Range, Refusal, Stop};
 
+// In the other order of fields a slice takes 251 instructions for 244.
 #[derive(Clone, Copy)]
 pub struct TransportFound {
-    pub ending: Ending,
     pub transport: Option<Header>,
+    pub ending: Ending,
 }
 
 // The payload runs to the room's end.
-fn unopened(number: IpNumber, at: usize, end: usize, stop: Stop) -> TransportFound
-    requires { at ≤ end }
-    ensures { result ≡ stopped_at number at end stop }
+fn unopened(room: RoomSlice, number: IpNumber, stop: Stop) -> TransportFound
+    ensures { result ≡ stopped_at number room.entry.at room.entry.end stop }
 {
     TransportFound {
         ending: Ending {
-            payload: Range { at, len: end - at },
+            payload: room.payload(),
             number: Number::Ip(number),
             stop,
         },
@@ -49,21 +50,17 @@ fn opened(number: IpNumber, kind: Kind, at: usize, x: TransportHeader) -> Transp
 }
 
 pub fn slice_transport(
-    s: &[u8],
+    room: RoomSlice,
     number: IpNumber,
-    at: usize,
-    end: usize,
-    source: RoomSource,
     mark: bool,
 ) -> Result<TransportFound, Refusal>
-    requires { (at ≤ end) × (end ≤ length s.now) }
-    ensures { Carried s.now end source mark number at (leg_on_paper result) }
+    ensures { Carried room.entry mark number (leg_on_paper result) }
 {
     match transport_turn(number, mark) {
-        TransportTurn::Stops(stop) => Ok(unopened(number, at, end, stop)),
+        TransportTurn::Stops(stop) => Ok(unopened(room, number, stop)),
         TransportTurn::Opens(kind) => {
-            let x = transport_at(&s[at..end], kind, at, source)?;
-            Ok(opened(number, Kind::from(kind), at, x))
+            let x = transport_at(&room.frame[room.at..room.end], kind, room.at, room.source)?;
+            Ok(opened(number, Kind::from(kind), room.at, x))
         }
     }
 }

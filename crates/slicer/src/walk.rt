@@ -1,137 +1,67 @@
 // Slicing a frame: link, net and transport leg, then the reply in one piece.
-ghost use Rattle.std.specs.Prelude.{◌≡◌, Ok, false, ℕ, ◌+◌, ◌≤◌, length};
+ghost use Rattle.std.specs.Prelude.{◌≡◌, Ok};
 ghost use Rattle.rules.specs.declared.entry.Entry.TheVariants as E;
-ghost use Rattle.rules.specs.declared.kind.Kind.{Kind as AnyKind};
-ghost use Rattle.rules.specs.declared.kind.RoomSource.TheVariants as S;
 ghost use Rattle.rules.specs.Numbers.{ethernet_length, tag_limit};
 ghost use Rattle.rules.specs.Place.{ending_on_paper};
-ghost use Rattle.laws.specs.Gather.{gather};
-ghost use Rattle.one_header.specs.Turns.{ip_kind_of};
-ghost use Rattle.slicer.specs.Reply.{packet_on_paper, accepted_by, reply_of, slots, slice_way};
-ghost use Rattle.slicer.specs.Legs.{
-  tags_from,
-  link_parts,
-  found_by,
-  ending_by,
-  found_ip,
-  on_transport,
-  net_place,
-  net_room,
-};
+ghost use Rattle.slicer.specs.Reply.{packet_on_paper, accepted_by, reply_of, slots};
+ghost use Rattle.slicer.specs.Legs.{tags_from, found_by, behind_link};
 
 use crate::link::{LinkFound, slice_link};
-use crate::net::{NetFound, slice_ip};
+use crate::net::slice_ip;
 use crate::packet::{IpPart, SlicedPacket};
 use crate::transport::slice_transport;
 use one_header::{IpKind, LinkEnd};
 use rules::ether_type::TAG_LIMIT;
-use rules::{Ending, Entry, Header, Kind, Number, Range, Refusal, RoomSource, Stop, length};
+use rules::{Ending, Entry, Header, Kind, Number, Refusal, length};
+use std::array;
 
-// Tags stand one behind the other from the Ethernet header on, so their count tells where each is. The number of turns is
-// fixed, so that the compiler lays them out one after the other.
+// Tags stand one behind the other from the Ethernet header on, so their count tells where each is.
 fn tag_headers(count: usize) -> [Header; TAG_LIMIT]
-    requires { count ≤ tag_limit }
     ensures { result ≡ slots tag_limit (tags_from ethernet_length count) }
 {
-    let mut tags = [Header::default(); TAG_LIMIT];
-    let kind = Kind::Vlan.number();
-    let mut at = length::ETHERNET2;
-    let mut i: usize = 0;
-    while i < TAG_LIMIT {
+    array::from_fn(|i| {
         if i < count {
-            tags[i] = Header {
-                kind,
-                at,
+            Header {
+                kind: Kind::Vlan.number(),
+                at: length::ETHERNET2 + i * length::VLAN,
                 len: length::VLAN,
-            };
+            }
+        } else {
+            Header::default()
         }
-        at += length::VLAN;
-        i += 1;
-    }
-    tags
+    })
 }
 
-fn link_part(linked: bool) -> Option<Header>
-    ensures { result ≡ (link_parts linked 0).link }
-{
-    if linked {
-        return Some(Header {
-            kind: Kind::Ethernet2.number(),
-            at: 0,
-            len: length::ETHERNET2,
-        });
-    }
-    None
-}
-
-// The reply of an accepted frame. Its ending comes in parts, so that it is put together only where it stands in the end.
+// The reply of an accepted frame.
 fn accepted(
     front: LinkFound,
     net: Option<IpPart>,
     transport: Option<Header>,
-    payload: Range,
-    number: Number,
-    stop: Stop,
+    ending: Ending,
 ) -> SlicedPacket
-    requires { front.tags ≤ tag_limit }
-    ensures { packet_on_paper (Ok result) ≡ accepted_by (found_by front net transport) (ending_on_paper (ending_by payload number stop)) }
+    ensures { packet_on_paper (Ok result) ≡ accepted_by (found_by front.entry net transport) (ending_on_paper ending) }
 {
     SlicedPacket {
         tags: tag_headers(front.tags),
         count: front.tags,
         net,
-        link: link_part(front.linked),
+        link: front.linked.then_some(Header {
+            kind: Kind::Ethernet2.number(),
+            at: 0,
+            len: length::ETHERNET2,
+        }),
         transport,
-        ending: Ending {
-            payload,
-            number,
-            stop,
-        },
+        ending,
     }
 }
 
-fn behind_ip(s: &[u8], front: LinkFound, found: NetFound) -> Result<SlicedPacket, Refusal>
-    requires { (front.tags ≤ tag_limit) × (found.begin + found.len ≤ found.at) × (found.at ≤ found.end) × (found.end ≤ length s.now) }
-    ensures { (k : AnyKind) (t i : ℕ) → packet_on_paper result ≡ on_transport s.now (found_ip found (link_parts front.linked front.tags)) (net_room k found.end t i found.source found.mark) found.number found.at }
+// From an IP header behind the link on. Apart from `slice`, whose two ways would call `accepted` twice: it takes 401 instructions then for 250.
+fn behind_link(front: LinkFound, kind: IpKind) -> Result<SlicedPacket, Refusal>
+    ensures { packet_on_paper result ≡ behind_link front.entry kind }
 {
-    let x = slice_transport(
-        s,
-        found.number,
-        found.at,
-        found.end,
-        found.source,
-        found.mark,
-    )?;
-    let from = found.begin + found.len;
-    let net = IpPart {
-        header: Header {
-            kind: found.kind.number(),
-            at: found.begin,
-            len: found.len,
-        },
-        exts: Range {
-            at: from,
-            len: found.at - from,
-        },
-        fragmented: found.mark,
-    };
-    let ending = x.ending;
-    Ok(accepted(
-        front,
-        Some(net),
-        x.transport,
-        ending.payload,
-        ending.number,
-        ending.stop,
-    ))
-}
-
-fn behind_link(s: &[u8], front: LinkFound, kind: IpKind) -> Result<SlicedPacket, Refusal>
-    requires { (front.tags ≤ tag_limit) × (front.at ≤ length s.now) }
-    ensures { (i : ℕ) → packet_on_paper result ≡ gather slice_way (link_parts front.linked front.tags) s.now (net_place (ip_kind_of kind) front.at (length s.now) front.tags 0 i S.Slice false) }
-{
-    let found = slice_ip(s, kind, front.at, s.len(), RoomSource::Slice)?;
-    behind_ip(s, front, found)
+    let net = slice_ip(front.room, kind)?;
+    let found = slice_transport(net.room, net.number, net.ip.fragmented)?;
+    Ok(accepted(front, Some(net.ip), found.transport, found.ending))
 }
 
 // Any bytes, of any length, get their reply.
@@ -141,14 +71,14 @@ pub fn slice(s: &[u8], entry: Entry) -> Result<SlicedPacket, Refusal>
 {
     let front = slice_link(s, entry)?;
     match front.turn {
-        LinkEnd::Opens(kind) => behind_link(s, front, kind),
+        LinkEnd::Opens(kind) => behind_link(front, kind),
         LinkEnd::Stops(stop) => {
-            let payload = Range {
-                at: front.at,
-                len: s.len() - front.at,
+            let ending = Ending {
+                payload: front.room.payload(),
+                number: Number::Link(front.number),
+                stop,
             };
-            let number = Number::Link(front.number);
-            Ok(accepted(front, None, None, payload, number, stop))
+            Ok(accepted(front, None, None, ending))
         }
     }
 }

@@ -2,31 +2,33 @@
 use Rattle.slicer.proofs.Nets.{ip_answer, ip_short, ip_in, ip_done, ip_stuck}
 use Rattle.slicer.proofs.Answers.{there, turned, handed_on}
 use Rattle.slicer.specs.Legs.{went}
-use mathlib.Core.Path.{refl}
+use Rattle.rules.specs.Named.{kind_number}
+use mathlib.Core.Path.{refl, ap, ◌∙◌}
 use native.Mathlib.Omega.{arith}
 use Rattle.slicer.proofs.net.slice_ip.Goals as goal
 
 pub returns-in_err-x : goal.returns-in_err-x
 returns-in_err-x c =
-    handed_on _ _ c.from_residual.ensures.1 (ip_short (ip_answer _ c.requires.0 c.requires.1 c.in_err-x.ensures.answer) refl)
-
-pub overflow_add-inner : goal.overflow_add-inner
-overflow_add-inner c =
-    let z = ip_in (ip_answer _ c.requires.0 c.requires.1 c.in_ok-x.ensures.answer) refl in omega (arith, z.0, z.1, z.2)
-
-pub overflow_add-at : goal.overflow_add-at
-overflow_add-at c =
-    let z = ip_in (ip_answer _ c.requires.0 c.requires.1 c.in_ok-x.ensures.answer) refl in omega (arith, z.0, z.1, z.2)
-
-pub ip_exts_slice-requires : goal.ip_exts_slice-requires
-ip_exts_slice-requires c =
-    let z = ip_in (ip_answer _ c.requires.0 c.requires.1 c.in_ok-x.ensures.answer) refl in (z.0, omega (arith, z.1, z.2))
+    handed_on _ _ c.from_residual.ensures.1 (ip_short (ip_answer _ c.args.room.ordered c.args.room.inside c.in_err-x.ensures.answer) refl)
 
 pub returns-in_err-exts : goal.returns-in_err-exts
 returns-in_err-exts c =
     handed_on _ _ c.from_residual-in_err-exts.ensures.1
-    (ip_stuck (ip_answer _ c.requires.0 c.requires.1 c.in_ok-x.ensures.answer) refl c.marks-mark.ensures (turned c.in_err-exts.ensures))
+    (ip_stuck (ip_answer _ c.args.room.ordered c.args.room.inside c.in_ok-x.ensures.answer) refl c.marks.ensures (turned c.in_err-exts.ensures))
 
 pub returns : goal.returns
 returns c =
-    went (ip_done (ip_answer _ c.requires.0 c.requires.1 c.in_ok-x.ensures.answer) refl c.marks-mark.ensures c.from.ensures (there c.in_ok-exts.ensures))
+    went (ip_done (ip_answer _ c.args.room.ordered c.args.room.inside c.in_ok-x.ensures.answer) refl c.marks.ensures
+    (c.number.ensures ∙ ap kind_number c.from.ensures) (there c.in_ok-exts.ensures))
+
+pub overflow_add-inner : goal.overflow_add-inner
+overflow_add-inner c =
+    let z = ip_in (ip_answer _ c.args.room.ordered c.args.room.inside c.in_ok-x.ensures.answer) refl in omega (arith, z.0, z.1, z.2)
+
+pub overflow_add-inner-2 : goal.overflow_add-inner-2
+overflow_add-inner-2 c =
+    let z = ip_in (ip_answer _ c.args.room.ordered c.args.room.inside c.in_ok-x.ensures.answer) refl in omega (arith, z.1, z.2)
+
+pub invariant_of-inner : goal.invariant_of-inner
+invariant_of-inner c =
+    let z = ip_in (ip_answer _ c.args.room.ordered c.args.room.inside c.in_ok-x.ensures.answer) refl in record { ordered = z.0; inside = omega (arith, z.1, z.2) }

@@ -12,12 +12,12 @@ use Rattle.slicer.proofs.transport.slice_transport.Goals as goal
 pub returns-in_err-x-in-Opens : goal.returns-in_err-x-in-Opens
 returns-in_err-x-in-Opens c =
     handed_on _ _ c.from_residual.ensures.1
-    (short _ _ _ _ _ _ _ c.transport_turn.ensures c.requires.0 c.requires.1 c.in-Opens.is c.in_err-x-in-Opens.ensures.answer refl)
+    (short _ _ _ _ _ _ _ c.transport_turn.ensures c.args.room.ordered c.args.room.inside c.in-Opens.is c.in_err-x-in-Opens.ensures.answer refl)
 
 pub opened-requires : goal.opened-requires
 opened-requires c =
-    let z = inside _ _ _ _ _ _ _ c.transport_turn.ensures c.requires.0 c.requires.1 c.in-Opens.is c.in_ok-x-in-Opens.ensures.answer refl in
-    (z.0, omega (arith, z.1, c.requires.1))
+    let z = inside _ _ _ _ _ _ _ c.transport_turn.ensures c.args.room.ordered c.args.room.inside c.in-Opens.is c.in_ok-x-in-Opens.ensures.answer refl in
+    (z.0, omega (arith, z.1, c.args.room.inside))
 
 pub returns-in-Stops : goal.returns-in-Stops
 returns-in-Stops c =
@@ -26,4 +26,4 @@ returns-in-Stops c =
 pub returns-in_ok-x-in-Opens : goal.returns-in_ok-x-in-Opens
 returns-in_ok-x-in-Opens c =
     went (λ f k t i n. rw (c.opened.ensures, c.from.ensures)
-    (on _ _ _ _ _ _ _ c.transport_turn.ensures c.requires.0 c.requires.1 c.in-Opens.is c.in_ok-x-in-Opens.ensures.answer refl f k t i))
+    (on _ _ _ _ _ _ _ c.transport_turn.ensures c.args.room.ordered c.args.room.inside c.in-Opens.is c.in_ok-x-in-Opens.ensures.answer refl f k t i))

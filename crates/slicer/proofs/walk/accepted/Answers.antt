@@ -6,4 +6,4 @@ use Rattle.slicer.proofs.walk.accepted.Goals as goal
 
 pub returns : goal.returns
 returns c =
-    rw (tags_length c.args.front.tags ethernet_length, c.tag_headers.ensures, c.link_part.ensures) refl
+    rw (tags_length c.args.front.tags ethernet_length, c.tag_headers.ensures, c.then_some.ensures, c.number.ensures) refl

@@ -2,18 +2,19 @@
 use Rattle.std.proofs.lemmas.Result.{err_from_is_err_and}
 use Rattle.slicer.proofs.Answers.{there, turned}
 use Rattle.slicer.proofs.Slices.{reply_is, to_ip, to_stop}
-use mathlib.Core.Path.{sym, ap, ◌∙◌}
+use mathlib.Core.Path.{sym, ◌∙◌}
 use Rattle.slicer.proofs.walk.slice.Goals as goal
 
 pub returns-in_err-front-clause-reply : goal.returns-in_err-front-clause-reply
 returns-in_err-front-clause-reply c =
     let p = err_from_is_err_and c.from_residual.result c.from_residual.ensures.1 in
-    rw (p.1, p.2) (sym (turned c.in_err-front.ensures) ∙ sym (reply_is _ c.args.s.now))
+    rw (p.1, p.2) (sym (reply_is _ c.args.s.now ∙ turned c.in_err-front.ensures))
 
 pub returns-in-Opens-clause-reply : goal.returns-in-Opens-clause-reply
 returns-in-Opens-clause-reply c =
-    c.behind_link.ensures 1 ∙ sym (to_ip (there c.in_ok-front.ensures) c.in-Opens.is) ∙ sym (reply_is _ c.args.s.now)
+    c.behind_link.ensures ∙ sym (reply_is _ c.args.s.now ∙ to_ip c.in_ok-front.front (there c.in_ok-front.ensures) c.in-Opens.is)
 
 pub returns-in-Stops-clause-reply : goal.returns-in-Stops-clause-reply
 returns-in-Stops-clause-reply c =
-    c.accepted.ensures ∙ sym (to_stop (there c.in_ok-front.ensures) c.in-Stops.is) ∙ sym (reply_is _ c.args.s.now)
+    c.accepted.ensures
+    ∙ rw c.payload.ensures (sym (reply_is _ c.args.s.now ∙ to_stop c.in_ok-front.front (there c.in_ok-front.ensures) c.in-Stops.is))
