@@ -1,7 +1,6 @@
 -- "Each public answer is settled by its input alone": the public functions whose contract says `r ≡ value`, a statement each. The others are in
 -- Settled.antt; docs/SETTLED.md lists all, and bin/settled holds the list against the sources.
 use Rattle.std.specs.Prelude.{ℕ, ◌≡◌, Bool, List, eqb, Option, Result}
-use Rattle.rules.specs.declared.refusal.Fault.{Fault}
 use Rattle.rules.specs.declared.entry.Entry.{Entry}
 use Rattle.rules.specs.declared.fragment.Fragment.{Fragment}
 use Rattle.rules.specs.declared.kind.Kind.{Kind}
