@@ -1,6 +1,6 @@
 -- "A frame is accepted exactly when it has a chain": accepted_iff_chain, for each entry.
 use Rattle.std.specs.Prelude.{ℕ, ◌≡◌, refl, List, Result, Ok, Err}
-use Rattle.std.proofs.Common.{sym, ap, ◌∙◌, subst, arith}
+use Rattle.std.proofs.Common.{sym, ap, ◌∙◌, subst}
 use Rattle.rules.specs.declared.refusal.Refusal.{Refusal}
 use Rattle.rules.specs.Place.{Stopped, ending_on_paper}
 use Rattle.rules.specs.Walk.{Trace, HeaderAt}

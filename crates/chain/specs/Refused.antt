@@ -2,7 +2,7 @@
 -- that refusal for every k, and so is its count": refused-for-a-reason, for the reply, header k and the count, for each entry.
 use Rattle.std.specs.Prelude.{ℕ, zero, suc, refl, List, [], ◌∷◌, map, Option, Some, None, Result, Ok, Err}
 use Rattle.std.proofs.Math.Path.{◌≡◌}
-use Rattle.std.proofs.Common.{sym, ap, ◌∙◌, subst, arith}
+use Rattle.std.proofs.Common.{sym, ap, ◌∙◌, subst}
 use Rattle.rules.specs.declared.place.Header.{Header}
 use Rattle.rules.specs.declared.stop.Ending.{Ending}
 use Rattle.rules.specs.declared.refusal.Refusal.{Refusal}

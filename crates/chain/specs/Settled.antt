@@ -9,6 +9,7 @@ use Rattle.rules.specs.declared.place.Header.{Header}
 use Rattle.rules.specs.declared.entry.Entry.{Entry}
 use Rattle.rules.specs.declared.kind.Kind.{Kind}
 use Rattle.rules.specs.declared.kind.Kind.TheVariants as K
+use Rattle.rules.specs.declared.kind.Layer.{Layer}
 use Rattle.rules.specs.declared.kind.RoomSource.{RoomSource}
 use Rattle.rules.specs.declared.kind.RoomSource.TheVariants as S
 use Rattle.rules.specs.declared.place.Place.{Place}
@@ -19,6 +20,7 @@ use Rattle.rules.specs.declared.refusal.Row.{Row}
 use Rattle.rules.specs.declared.stop.Stop.{Stop}
 use Rattle.rules.specs.declared.turn.Turn.{Turn}
 use Rattle.rules.specs.declared.turn.Turn.TheVariants as T
+use Rattle.rules.specs.Named.{layer_number}
 use Rattle.rules.specs.Test.{placed}
 use Rattle.rules.specs.Paper.{fault_on_paper, refusal_on_paper}
 use Rattle.rules.specs.Rules.{link, transport}
@@ -53,7 +55,7 @@ use Rattle.tcp_options.specs.Options.{named, options, option_of}
 use Rattle.tcp_options.specs.Paper.{kind_on_paper, option_on_paper}
 use Rattle.tcp_options.specs.Settled.{kind_settled, settled}
 use Rattle.chain.specs.Answers.{Sliced, HeaderIs, CountIs, ListIs, FirstIs, StepIs}
-use Rattle.laws.specs.Back.{settled_by, stop_back}
+use Rattle.laws.specs.Back.{settled_by, layer_back, stop_back}
 use Rattle.chain.specs.Back.{refusal-back, read_back}
 use Rattle.chain.specs.Back.{at_back, link_turn_back, transport_turn_back}
 use Rattle.chain.specs.Back.{packet_back, header_back, count_back, step_back}
@@ -66,10 +68,13 @@ Settles {A} contract = (x y : A) → contract x → contract y → x ≡ y
 pub same_value : {A : Type 0} {x y z : A} → x ≡ z → y ≡ z → x ≡ y
 same_value e f = e ∙ sym f
 
--- ---- crate rules: Fault::at
+-- ---- crate rules: Fault::at and Refusal::layer
 
 pub fault_at : (self : Fault) (offset : ℕ) (room : RoomSource) → Settles (λ (r : Refusal). refusal_on_paper r ≡ placed (fault_on_paper self) offset room)
 fault_at self offset room x y e f = settled_by refusal-back e f
+
+pub refusal_layer : (self : Refusal) → Settles (λ (r : Layer). layer_number r ≡ (refusal_on_paper self).layer)
+refusal_layer self x y e f = settled_by layer_back e f
 
 -- ---- crate headers, w the bytes that the reader is handed. Its contracts speak of every IP version v; there is one.
 

@@ -1,7 +1,6 @@
 -- "Each public answer is settled by its input alone": the public functions whose contract says `r ≡ value`, a statement each. The others are in
 -- Settled.antt; docs/SETTLED.md lists all, and bin/settled holds the list against the sources.
-use Rattle.std.specs.Prelude.{ℕ, ◌≡◌, Bool, List, eqb, Option}
-use Rattle.rules.specs.declared.refusal.Fault.{Fault}
+use Rattle.std.specs.Prelude.{ℕ, ◌≡◌, Bool, List, eqb, Option, Result}
 use Rattle.rules.specs.declared.entry.Entry.{Entry}
 use Rattle.rules.specs.declared.fragment.Fragment.{Fragment}
 use Rattle.rules.specs.declared.kind.Kind.{Kind}
@@ -25,8 +24,13 @@ use Rattle.one_header.specs.declared.ext.ExtKind.{ExtKind}
 use Rattle.one_header.specs.declared.ext.ExtTurn.{ExtTurn}
 use Rattle.one_header.specs.declared.ip.IpKind.{IpKind}
 use Rattle.one_header.specs.declared.link.LinkTurn.{LinkTurn}
+use Rattle.one_header.specs.declared.transport.TransportKind.{TransportKind}
 use Rattle.one_header.specs.declared.transport.TransportTurn.{TransportTurn}
-use Rattle.one_header.specs.Turns.{ext_kind_of, ip_kind_of, ext_turn, link_turn_on_paper, transport_turn_on_paper}
+use Rattle.one_header.specs.Turns.{ext_kind_of, ip_kind_of, sets_of, version_of, transport_kind_of, ext_turn, link_turn_on_paper, transport_turn_on_paper}
+use Rattle.slicer.specs.declared.packet.IpPart.{IpPart}
+use Rattle.steps.specs.declared.place.NoStep.{NoStep}
+use Rattle.steps.specs.declared.place.NoStep.TheVariants as NS
+use Rattle.steps.specs.Lists.{count_on_paper}
 use Rattle.laws.specs.Zeros.{zeros}
 use Rattle.checksum.specs.Sum.{add_slice, answer, without_zero}
 use Rattle.tcp_options.specs.declared.answer.OptionRefusal.{OptionRefusal}
@@ -37,11 +41,12 @@ use Rattle.tcp_options.specs.Paper.{kind_on_paper}
 use Rattle.tcp_options.specs.Paper as O
 use Rattle.printing.specs.Text.{text_of}
 use Rattle.printing.specs.Put.{printed_in, printed_by}
+use Rattle.exports.specs.declared.handed.Net.{Net}
 use Rattle.exports.specs.declared.handed.Packet.{Packet}
 use Rattle.exports.specs.declared.handed.HeaderReply.{HeaderReply}
 use Rattle.exports.specs.declared.handed.CountReply.{CountReply}
 use Rattle.exports.specs.declared.handed.OptionReply.{OptionReply}
-use Rattle.exports.specs.Handed.{interface, entry_by, slice_for, header_for, count_for, list_for, option_by}
+use Rattle.exports.specs.Handed.{interface, entry_by, net_by, count_answer_by, slice_for, header_for, count_for, list_for, option_by}
 use Rattle.chain.specs.Settled.{Settles, same_value}
 
 -- the reason
@@ -96,6 +101,15 @@ ext_kind self = by_value (ext_kind_of self)
 pub ip_kind : (self : IpKind) → Settles (λ (r : Kind). r ≡ ip_kind_of self)
 ip_kind self = by_value (ip_kind_of self)
 
+pub ip_sets : (self : IpKind) → Settles (λ (r : RoomSource). r ≡ sets_of self)
+ip_sets self = by_value (sets_of self)
+
+pub ip_version : (self : IpKind) → Settles (λ (r : ℕ). r ≡ version_of self)
+ip_version self = by_value (version_of self)
+
+pub transport_kind : (self : TransportKind) → Settles (λ (r : Kind). r ≡ transport_kind_of self)
+transport_kind self = by_value (transport_kind_of self)
+
 pub link_turn_kind : (self : LinkTurn) → Settles (λ (r : Turn). r ≡ link_turn_on_paper self)
 link_turn_kind self = by_value (link_turn_on_paper self)
 
@@ -111,7 +125,10 @@ opens_auth n = by_value (eqb n auth_number)
 pub stop_behind : Settles (λ (r : Stop). r ≡ S.TransportRead)
 stop_behind = by_value (S.TransportRead)
 
--- ---- crate steps: what `clear` leaves in n lent numbers
+-- ---- crate steps: a refusal as what keeps a step from being made, and what `clear` leaves in n lent numbers
+
+pub no_step : (self : Refusal) → Settles (λ (r : NoStep). r ≡ NS.Refused self)
+no_step self = by_value (NS.Refused self)
 
 pub clear : (n : ℕ) → Settles (λ (after : List ℕ). after ≡ zeros n)
 clear n = by_value (zeros n)
@@ -133,6 +150,12 @@ pub print_left : (entry : Entry) (s : List ℕ) (n : ℕ) → Settles (λ (after
 print_left entry s n = by_value (printed_in (text_of entry s) n)
 
 -- ---- crates exports and exports_by_number
+
+pub net_from : (ip : IpPart) → Settles (λ (r : Net). r ≡ net_by ip)
+net_from ip = by_value (net_by ip)
+
+pub count_reply_from : (counted : Result ℕ Refusal) → Settles (λ (r : CountReply). r ≡ count_answer_by (count_on_paper counted))
+count_reply_from counted = by_value (count_answer_by (count_on_paper counted))
 
 pub bhirkulom_interface : Settles (λ (r : ℕ). r ≡ interface)
 bhirkulom_interface = by_value interface
