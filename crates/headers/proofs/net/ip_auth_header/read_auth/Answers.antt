@@ -19,9 +19,11 @@ returns-then-words-eq0-clause-answer c =
 pub returns-then-have-len-clause-answer : goal.returns-then-have-len-clause-answer
 unfolding says tests_by seen_by
 returns-then-have-len-clause-answer c =
-    λ v. simp (← c.byte.ensures.answer, ← c.from-words.ensures) (judged (on c.if-have-lt-AUTH.false (on (omega arith) (off (beyond c.if-have-len.true) c.too_short-then-have-len.ensures))))
+    λ v. simp (← c.byte.ensures.answer, ← c.from-words.ensures) (judged (on c.if-have-lt-AUTH.false (on (omega arith)
+    (off (beyond c.if-have-len.true) c.too_short-then-have-len.ensures))))
 
 pub returns-clause-answer : goal.returns-clause-answer
 unfolding says tests_by seen_by
 returns-clause-answer c =
-    λ v. simp (← c.byte.ensures.answer, ← c.from-words.ensures, ← c.byte-2.ensures.answer) (judged (on c.if-have-lt-AUTH.false (on (omega arith) (on c.if-have-len.false (done (refl))))))
+    λ v. simp (← c.byte.ensures.answer, ← c.from-words.ensures, ← c.byte-2.ensures.answer) (judged (on c.if-have-lt-AUTH.false (on (omega arith)
+    (on c.if-have-len.false (done (refl))))))

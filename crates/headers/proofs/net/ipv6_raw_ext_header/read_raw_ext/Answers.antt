@@ -13,9 +13,11 @@ returns-then-have-lt-RAW_EXT-clause-answer c =
 pub returns-then-have-len-clause-answer : goal.returns-then-have-len-clause-answer
 unfolding says tests_by seen_by
 returns-then-have-len-clause-answer c =
-    λ v. simp (← c.byte.ensures.answer, ← c.from-units.ensures) (judged (on c.if-have-lt-RAW_EXT.false (off (beyond c.if-have-len.true) c.too_short-then-have-len.ensures)))
+    λ v. simp (← c.byte.ensures.answer, ← c.from-units.ensures) (judged (on c.if-have-lt-RAW_EXT.false
+    (off (beyond c.if-have-len.true) c.too_short-then-have-len.ensures)))
 
 pub returns-clause-answer : goal.returns-clause-answer
 unfolding says tests_by seen_by
 returns-clause-answer c =
-    λ v. simp (← c.byte.ensures.answer, ← c.from-units.ensures, ← c.byte-2.ensures.answer) (judged (on c.if-have-lt-RAW_EXT.false (on c.if-have-len.false (done (refl)))))
+    λ v. simp (← c.byte.ensures.answer, ← c.from-units.ensures, ← c.byte-2.ensures.answer) (judged (on c.if-have-lt-RAW_EXT.false
+    (on c.if-have-len.false (done (refl)))))

@@ -15,21 +15,23 @@ returns-then-have-lt-UDP-clause-answer c =
 pub returns-then-end-eq0-clause-answer : goal.returns-then-end-eq0-clause-answer
 unfolding says tests_by seen_by
 returns-then-end-eq0-clause-answer c =
-    λ v. simp (← c.be16.ensures.answer, ← c.from-end.ensures, eq-eqb _ 0 c.if-end-eq0.true) (judged (on c.if-have-lt-UDP.false (on c.if-have-lt-UDP.false (on (omega arith) (done (refl))))))
+    λ v. simp (← c.be16.ensures.answer, ← c.from-end.ensures, eq-eqb _ 0 c.if-end-eq0.true) (judged (on c.if-have-lt-UDP.false
+    (on c.if-have-lt-UDP.false (on (omega arith) (done (refl))))))
 
 pub returns-then-end-lt-UDP-clause-answer : goal.returns-then-end-lt-UDP-clause-answer
 unfolding says tests_by seen_by
 returns-then-end-lt-UDP-clause-answer c =
-    λ v. simp (← c.be16.ensures.answer, ← c.from-end.ensures, ne_eqb _ 0 c.if-end-eq0.false) (judged (on c.if-have-lt-UDP.false (off (beyond c.if-end-lt-UDP.true) refl)))
+    λ v. simp (← c.be16.ensures.answer, ← c.from-end.ensures, ne_eqb _ 0 c.if-end-eq0.false) (judged (on c.if-have-lt-UDP.false
+    (off (beyond c.if-end-lt-UDP.true) refl)))
 
 pub returns-then-have-end-clause-answer : goal.returns-then-have-end-clause-answer
 unfolding says tests_by seen_by
 returns-then-have-end-clause-answer c =
-    λ v. simp (← c.be16.ensures.answer, ← c.from-end.ensures, ne_eqb _ 0 c.if-end-eq0.false) (judged (on c.if-have-lt-UDP.false (on c.if-end-lt-UDP.false (off (beyond
-    c.if-have-end.true) refl))))
+    λ v. simp (← c.be16.ensures.answer, ← c.from-end.ensures, ne_eqb _ 0 c.if-end-eq0.false) (judged (on c.if-have-lt-UDP.false
+    (on c.if-end-lt-UDP.false (off (beyond c.if-have-end.true) refl))))
 
 pub returns-clause-answer : goal.returns-clause-answer
 unfolding says tests_by seen_by
 returns-clause-answer c =
-    λ v. simp (← c.be16.ensures.answer, ← c.from-end.ensures, ne_eqb _ 0 c.if-end-eq0.false) (judged (on c.if-have-lt-UDP.false (on c.if-end-lt-UDP.false (on c.if-have-end.false (done
-    (refl))))))
+    λ v. simp (← c.be16.ensures.answer, ← c.from-end.ensures, ne_eqb _ 0 c.if-end-eq0.false) (judged (on c.if-have-lt-UDP.false
+    (on c.if-end-lt-UDP.false (on c.if-have-end.false (done (refl))))))
