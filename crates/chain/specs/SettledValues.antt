@@ -157,6 +157,9 @@ net_from ip = by_value (net_by ip)
 pub count_reply_from : (counted : Result ℕ Refusal) → Settles (λ (r : CountReply). r ≡ count_answer_by (count_on_paper counted))
 count_reply_from counted = by_value (count_answer_by (count_on_paper counted))
 
+pub option_reply_from : (answer : Result (Option TcpOption) OptionRefusal) → Settles (λ (r : OptionReply). r ≡ option_by (option_on_paper answer))
+option_reply_from answer = by_value (option_by (option_on_paper answer))
+
 pub bhirkulom_interface : Settles (λ (r : ℕ). r ≡ interface)
 bhirkulom_interface = by_value interface
 

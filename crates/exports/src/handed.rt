@@ -24,7 +24,7 @@ pub const IP_NUMBER: usize = 2;
 
 // An IP header with the range of its extensions.
 #[repr(C)]
-#[derive(Clone, Copy)]
+#[derive(Clone, Copy, Default)]
 pub struct Net {
     pub header: Header,
     pub exts: Range,
@@ -33,7 +33,7 @@ pub struct Net {
 
 // Of a tag its range is told: its kind is that of a tag.
 #[repr(C)]
-#[derive(Clone, Copy)]
+#[derive(Clone, Copy, Default)]
 pub struct Packet {
     pub status: usize,
     pub link: Header,
@@ -50,7 +50,7 @@ pub struct Packet {
 }
 
 #[repr(C)]
-#[derive(Clone, Copy)]
+#[derive(Clone, Copy, Default)]
 pub struct HeaderReply {
     pub status: usize,
     pub header: Header,
@@ -58,7 +58,7 @@ pub struct HeaderReply {
 }
 
 #[repr(C)]
-#[derive(Clone, Copy)]
+#[derive(Clone, Copy, Default)]
 pub struct CountReply {
     pub status: usize,
     pub count: usize,
@@ -67,7 +67,7 @@ pub struct CountReply {
 
 // An option: the number of its kind, its offset and its size. Its refusal carries the option's offset alone.
 #[repr(C)]
-#[derive(Clone, Copy)]
+#[derive(Clone, Copy, Default)]
 pub struct OptionReply {
     pub status: usize,
     pub kind: usize,

@@ -52,7 +52,7 @@ pub fn bhirkulom_slice(frame: &[u8], entry: usize) -> Packet
     match slicer::slice(frame, known) {
         Ok(sliced) => match sliced.net {
             None => {
-                return reply::accepted_packet(sliced, reply::no_net());
+                return reply::accepted_packet(sliced, Net::default());
             }
             Some(ip) => {
                 return reply::accepted_packet(sliced, Net::from(ip));
@@ -83,7 +83,7 @@ pub fn bhirkulom_option(bytes: &[u8], k: usize) -> OptionReply
     ensures answer { result ≡ option_by (option_of (options bytes.now) k) }
     ensures unwritten { bytes.exit.now ≡ bytes.entry.now }
 {
-    reply::option_by(tcp_options::option(bytes, k))
+    OptionReply::from(tcp_options::option(bytes, k))
 }
 
 // The sum with one slice more. The sum of no slices is 0; every number of 16 bits is a sum.

@@ -35,45 +35,11 @@ use rules::{Header, Number, Range, Refusal, Row};
 use slicer::{IpPart, SlicedPacket};
 use tcp_options::{OptionKind, OptionRefusal, OptionRow, TcpOption};
 
-pub fn no_header() -> Header
-    ensures { result ≡ no_header }
-{
-    Header {
-        kind: 0,
-        at: 0,
-        len: 0,
-    }
-}
-
-pub fn no_row() -> Row
-    ensures { result ≡ no_row }
-{
-    Row {
-        number: 0,
-        layer: 0,
-        offset: 0,
-        values: [0, 0, 0],
-    }
-}
-
 // A header that was found, or zeros.
 fn header_or_none(found: Option<Header>) -> Header
     ensures { result ≡ header_or_none found }
 {
-    match found {
-        None => no_header(),
-        Some(header) => header,
-    }
-}
-
-pub fn no_net() -> Net
-    ensures { result ≡ no_net }
-{
-    Net {
-        header: no_header(),
-        exts: Range { at: 0, len: 0 },
-        fragmented: false,
-    }
+    found.unwrap_or_default()
 }
 
 impl From<IpPart> for Net {
@@ -131,27 +97,19 @@ pub fn accepted_packet(sliced: SlicedPacket, net: Net) -> Packet
         number: number_of(ending.number),
         numbering: numbering(ending.number),
         stop: ending.stop.number(),
-        refusal: no_row(),
+        refusal: Row::default(),
     }
 }
 
 // A packet that tells of no part.
+#[tactic(auto, unfolding(slicer::specs::Reply::slots))]
 fn partless(status: usize, refusal: Row) -> Packet
     ensures { result ≡ no_parts (unread status refusal) }
 {
-    let none = Range { at: 0, len: 0 };
     Packet {
         status,
-        link: no_header(),
-        count: 0,
-        tags: [none; TAG_LIMIT],
-        net: no_net(),
-        transport: no_header(),
-        payload: none,
-        number: 0,
-        numbering: 0,
-        stop: 0,
         refusal,
+        ..Packet::default()
     }
 }
 
@@ -165,7 +123,7 @@ pub fn refused_packet(refusal: Refusal) -> Packet
 pub fn no_packet() -> Packet
     ensures { result ≡ slice_for None [] }
 {
-    partless(NO_SUCH_ENTRY, no_row())
+    partless(NO_SUCH_ENTRY, Row::default())
 }
 
 impl From<Result<usize, Refusal>> for CountReply {
@@ -176,12 +134,12 @@ impl From<Result<usize, Refusal>> for CountReply {
             Ok(count) => CountReply {
                 status: THERE,
                 count,
-                refusal: no_row(),
+                ..CountReply::default()
             },
             Err(refusal) => CountReply {
                 status: REFUSED,
-                count: 0,
                 refusal: Row::from(refusal),
+                ..CountReply::default()
             },
         }
     }
@@ -193,17 +151,7 @@ pub fn no_count() -> CountReply
 {
     CountReply {
         status: NO_SUCH_ENTRY,
-        count: 0,
-        refusal: no_row(),
-    }
-}
-
-fn no_option_row() -> OptionRow
-    ensures { result ≡ no_option_row }
-{
-    OptionRow {
-        number: 0,
-        offset: 0,
+        ..CountReply::default()
     }
 }
 
@@ -213,33 +161,28 @@ fn is_known(kind: OptionKind) -> bool
     !matches!(kind, OptionKind::Unknown(_))
 }
 
-pub fn option_by(answer: Result<Option<TcpOption>, OptionRefusal>) -> OptionReply
-    ensures { result ≡ option_by (option_on_paper answer) }
-{
-    match answer {
-        Ok(Some(option)) => OptionReply {
-            status: THERE,
-            kind: usize::from(option.kind.number()),
-            at: option.at,
-            len: option.len,
-            refusal: no_option_row(),
-            known: is_known(option.kind),
-        },
-        Ok(None) => OptionReply {
-            status: NO_MORE,
-            kind: 0,
-            at: 0,
-            len: 0,
-            refusal: no_option_row(),
-            known: false,
-        },
-        Err(refusal) => OptionReply {
-            status: REFUSED,
-            kind: 0,
-            at: 0,
-            len: 0,
-            refusal: OptionRow::from(refusal),
-            known: false,
-        },
+impl From<Result<Option<TcpOption>, OptionRefusal>> for OptionReply {
+    ghost from_gives = { λ answer reply. reply ≡ option_by (option_on_paper answer) };
+
+    fn from(answer: Result<Option<TcpOption>, OptionRefusal>) -> OptionReply {
+        match answer {
+            Ok(Some(option)) => OptionReply {
+                status: THERE,
+                kind: usize::from(option.kind.number()),
+                at: option.at,
+                len: option.len,
+                known: is_known(option.kind),
+                ..OptionReply::default()
+            },
+            Ok(None) => OptionReply {
+                status: NO_MORE,
+                ..OptionReply::default()
+            },
+            Err(refusal) => OptionReply {
+                status: REFUSED,
+                refusal: OptionRow::from(refusal),
+                ..OptionReply::default()
+            },
+        }
     }
 }

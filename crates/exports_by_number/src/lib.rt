@@ -26,30 +26,23 @@ pub fn bhirkulom_header(frame: &[u8], entry: usize, k: usize) -> HeaderReply
     ensures answer { result ≡ header_for (entry_by entry) frame.now k }
     ensures unwritten { frame.exit.now ≡ frame.entry.now }
 {
-    let mut one: [usize; HEADER_WORDS] = [0; HEADER_WORDS];
+    let mut one = [0; HEADER_WORDS];
     let counted = bhirkulom_headers(frame, entry, k, &mut one);
-    let refusal = counted.refusal;
     if k < counted.count {
-        let header = Header {
-            kind: one[0],
-            at: one[1],
-            len: one[2],
-        };
         return HeaderReply {
             status: THERE,
-            header,
-            refusal,
+            header: Header {
+                kind: one[0],
+                at: one[1],
+                len: one[2],
+            },
+            refusal: counted.refusal,
         };
     }
-    let none = Header {
-        kind: 0,
-        at: 0,
-        len: 0,
-    };
     HeaderReply {
         status: past(counted.status),
-        header: none,
-        refusal,
+        header: Header::default(),
+        refusal: counted.refusal,
     }
 }
 
@@ -58,6 +51,5 @@ pub fn bhirkulom_count(frame: &[u8], entry: usize) -> CountReply
     ensures answer { result ≡ count_for (entry_by entry) frame.now }
     ensures unwritten { frame.exit.now ≡ frame.entry.now }
 {
-    let mut nothing: [usize; 0] = [];
-    bhirkulom_headers(frame, entry, 0, &mut nothing)
+    bhirkulom_headers(frame, entry, 0, &mut [])
 }

@@ -23,7 +23,7 @@ pub enum OptionRefusal {
 
 // A refusal as document 01's table has it: its number, and the option's offset, which is all that it carries.
 #[repr(C)]
-#[derive(Clone, Copy, Debug, PartialEq, Eq)]
+#[derive(Clone, Copy, Debug, Default, Eq, PartialEq)]
 pub struct OptionRow {
     pub number: usize,
     pub offset: usize,
