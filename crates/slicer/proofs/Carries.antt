@@ -1,17 +1,14 @@
 -- The transport leg. Assumes nothing.
 use Prim.Native.Nat.{ℕ, ◌+◌, ◌-◌, ◌≤◌}
 use mathlib.Core.Path.{◌≡◌, refl, sym, ap, ◌∙◌}
-use mathlib.Core.List.{List}
 use Rattle.std.specs.Prelude.{None, Some}
 use mathlib.Core.Bool.{Bool, true, false}
 use native.Mathlib.Omega.{arith}
-use lib.ListN.{length}
 use lib.Dec.{eqb}
 use borrow.Author.Tests.{eqb-true}
 use Rattle.rules.specs.declared.ip_number.IpNumber.{IpNumber}
 use Rattle.rules.specs.declared.kind.Kind.{Kind}
 use Rattle.rules.specs.declared.kind.Kind.TheVariants.{Udp, Tcp}
-use Rattle.rules.specs.declared.kind.RoomSource.{RoomSource}
 use Rattle.rules.specs.declared.place.Number.TheVariants.{Ip}
 use Rattle.rules.specs.declared.place.Room.{Room}
 use Rattle.rules.specs.declared.refusal.Row.{Row}
@@ -34,6 +31,7 @@ use Rattle.one_header.specs.declared.transport.TransportTurn.TheVariants as U
 use Rattle.one_header.specs.Turns.{transport_kind_of, transport_turn_on_paper}
 use Rattle.one_header.specs.At.{Placed, here, refused, placing, transport_says, here_whole}
 use Rattle.one_header.specs.Header.{transport_header}
+use Rattle.slicer.specs.declared.room.RoomSlice.{RoomSlice}
 use Rattle.slicer.specs.Reply.{Parts, accepted_by, refused_by, slice_way, with_transport, put}
 use Rattle.slicer.specs.Legs.{on_turn, net_room, on_transport, stopped_at, opened_at}
 use Rattle.slicer.proofs.ReadersAt.{Reads, made, whole_is, no, number_by, transport_read, toward}
@@ -79,57 +77,57 @@ putting : (k : TransportKind) (f : Parts) (e : HeaderAt) → put (transport_kind
 putting T.Udp f e = refl
 putting T.Tcp f e = refl
 
-module _ (s : List ℕ) (end : ℕ) (source : RoomSource) (mark : Bool) (named : IpNumber) (at : ℕ) (u : TransportTurn) (ue : Turned u named mark) where
-  by_turn : {v : TransportTurn} → u ≡ v → (f : Parts) (j : Kind) (t i : ℕ) → on_transport s f (net_room j end t i source mark) named at
-      ≡ on_turn s f (transport_turn_on_paper v) (net_room j end t i source mark) at (Ip named)
-  by_turn q f j t i = toward s f (net_room j end t i source mark) at (Ip named) (sym (ue (net_room j end t i source mark) refl) ∙ ap transport_turn_on_paper q)
+module _ (r : RoomSlice) (named : IpNumber) (mark : Bool) {u : TransportTurn} (ue : Turned u named mark) where
+  by_turn : {v : TransportTurn} → u ≡ v → (f : Parts) (j : Kind) (t i : ℕ) → on_transport r.frame.now f (net_room j r.end t i r.source mark) named r.at
+      ≡ on_turn r.frame.now f (transport_turn_on_paper v) (net_room j r.end t i r.source mark) r.at (Ip named)
+  by_turn q f j t i = toward r.frame.now f (net_room j r.end t i r.source mark) r.at (Ip named) (sym (ue (net_room j r.end t i r.source mark) refl) ∙ ap transport_turn_on_paper q)
 
   -- a stop, where nothing of the transport was found
   pub unopened : {stop : Stop} → u ≡ U.Stops stop → (f : Parts) (j : Kind) (t i : ℕ) → f.transport ≡ None
-      → on_transport s f (net_room j end t i source mark) named at
-      ≡ accepted_by (with_transport f (stopped_at named at end stop).transport) (ending_on_paper (stopped_at named at end stop).ending)
+      → on_transport r.frame.now f (net_room j r.end t i r.source mark) named r.at
+      ≡ accepted_by (with_transport f (stopped_at named r.at r.end stop).transport) (ending_on_paper (stopped_at named r.at r.end stop).ending)
   unfolding on_turn follow
-  unopened q f j t i n = by_turn q f j t i ∙ rest_halt slice_way f s _ ∙ rw (← n) refl
+  unopened q f j t i n = by_turn q f j t i ∙ rest_halt slice_way f r.frame.now _ ∙ rw (← n) refl
 
-  module _ (a : at ≤ end) (b : end ≤ length s) {k : TransportKind} (q : u ≡ U.Opens k)
-      {o : Placed TransportHeader} (e : (v : ℕ) → o ≡ placing (transport_says k v (part s at end)) at source) where
-    framed : (j : Kind) (t i : ℕ) → In s at (net_room j end t i source mark)
-    framed j t i = record { inside = a; room = b }
+  module _ {k : TransportKind} (q : u ≡ U.Opens k)
+      {o : Placed TransportHeader} (e : (v : ℕ) → o ≡ placing (transport_says k v (part r.frame.now r.at r.end)) r.at r.source) where
+    framed : (j : Kind) (t i : ℕ) → In r.frame.now r.at (net_room j r.end t i r.source mark)
+    framed j t i = record { inside = r.ordered; room = r.inside }
 
-    opens : (f : Parts) (j : Kind) (t i : ℕ) → on_transport s f (net_room j end t i source mark) named at
-        ≡ gather slice_way f s (place (transport_kind_of k) at (net_room j end t i source mark))
+    opens : (f : Parts) (j : Kind) (t i : ℕ) → on_transport r.frame.now f (net_room j r.end t i r.source mark) named r.at
+        ≡ gather slice_way f r.frame.now (place (transport_kind_of k) r.at (net_room j r.end t i r.source mark))
     unfolding on_turn follow
     opens f j t i =
-        by_turn q f j t i ∙ rest_next slice_way f s _
-        ∙ ap (λ (p : Room). gather slice_way f s (place (transport_kind_of k) at p)) (entering k (net_room j end t i source mark))
+        by_turn q f j t i ∙ rest_next slice_way f r.frame.now _
+        ∙ ap (λ (p : Room). gather slice_way f r.frame.now (place (transport_kind_of k) r.at p)) (entering k (net_room j r.end t i r.source mark))
 
     at_it : (y : Placed TransportHeader) (j : Kind) (t i : ℕ) → o ≡ y
-        → Reads s (transport_kind_of k) at (net_room j end t i source mark) (transport_header y (number_by k) (end - at) at (net_room j end t i source mark))
-    at_it y j t i r =
-        made (transport_read (framed j t i) k (e _)) (ap (λ c. transport_header c (number_by k) (end - at) at (net_room j end t i source mark)) r)
+        → Reads r.frame.now (transport_kind_of k) r.at (net_room j r.end t i r.source mark) (transport_header y (number_by k) (r.end - r.at) r.at (net_room j r.end t i r.source mark))
+    at_it y j t i z =
+        made (transport_read (framed j t i) k (e _)) (ap (λ c. transport_header c (number_by k) (r.end - r.at) r.at (net_room j r.end t i r.source mark)) z)
 
-    pub short : {r : Row} → o ≡ refused r → (f : Parts) (j : Kind) (t i : ℕ) → on_transport s f (net_room j end t i source mark) named at ≡ refused_by r
-    short {r} z f j t i = opens f j t i ∙ no f (at_it (refused r) j t i z)
+    pub short : {g : Row} → o ≡ refused g → (f : Parts) (j : Kind) (t i : ℕ) → on_transport r.frame.now f (net_room j r.end t i r.source mark) named r.at ≡ refused_by g
+    short {g} z f j t i = opens f j t i ∙ no f (at_it (refused g) j t i z)
 
     module _ {x : TransportHeader} (z : o ≡ here x) where
-      pub inside : (x.len ≤ x.end) × (at + x.end ≤ end)
+      pub inside : (x.len ≤ x.end) × (r.at + x.end ≤ r.end)
       unfolding tests_by
       inside = go k e
         where
-          go : (k : TransportKind) → ((v : ℕ) → o ≡ placing (transport_says k v (part s at end)) at source) → (x.len ≤ x.end) × (at + x.end ≤ end)
+          go : (k : TransportKind) → ((v : ℕ) → o ≡ placing (transport_says k v (part r.frame.now r.at r.end)) r.at r.source) → (x.len ≤ x.end) × (r.at + x.end ≤ r.end)
           go T.Udp e =
-              let y = stands _ (framed Udp 0 0) (here_whole _ at source (sym z ∙ e 0)) in
+              let y = stands _ (framed Udp 0 0) (here_whole _ r.at r.source (sym z ∙ e 0)) in
               let d = y.0.passed in
               rw y.1 (omega arith, omega arith)
           go T.Tcp e =
-              let y = stands _ (framed Tcp 0 0) (here_whole _ at source (sym z ∙ e 0)) in
+              let y = stands _ (framed Tcp 0 0) (here_whole _ r.at r.source (sym z ∙ e 0)) in
               let d = y.0.passed in
               rw y.1 (omega arith, omega arith)
 
-      pub on : (f : Parts) (j : Kind) (t i : ℕ) → on_transport s f (net_room j end t i source mark) named at
-          ≡ accepted_by (with_transport f (opened_at named (transport_kind_of k) at x).transport) (ending_on_paper (opened_at named (transport_kind_of k) at x).ending)
+      pub on : (f : Parts) (j : Kind) (t i : ℕ) → on_transport r.frame.now f (net_room j r.end t i r.source mark) named r.at
+          ≡ accepted_by (with_transport f (opened_at named (transport_kind_of k) r.at x).transport) (ending_on_paper (opened_at named (transport_kind_of k) r.at x).ending)
       unfolding follow
       on f j t i =
-          let l : at + x.end - (at + x.len) ≡ x.end - x.len = omega arith in
-          let m = opened-number k (net_room j end 0 0 source mark) named.0 (sym (ue _ refl) ∙ ap transport_turn_on_paper q) in
-          opens f j t i ∙ whole_is f (at_it (here x) j t i z) ∙ rest_halt slice_way _ s _ ∙ rw (putting k, l, ← m) refl
+          let l : r.at + x.end - (r.at + x.len) ≡ x.end - x.len = omega arith in
+          let m = opened-number k (net_room j r.end 0 0 r.source mark) named.0 (sym (ue _ refl) ∙ ap transport_turn_on_paper q) in
+          opens f j t i ∙ whole_is f (at_it (here x) j t i z) ∙ rest_halt slice_way _ r.frame.now _ ∙ rw (putting k, l, ← m) refl

@@ -1,5 +1,5 @@
 -- The reply put together: tag slots, and what the link's end leads to. Assumes nothing.
-use Prim.Native.Nat.{ℕ, zero, suc, ◌+◌, ◌-◌, ◌*◌, ◌≤◌, ◌<◌, min}
+use Prim.Native.Nat.{ℕ, zero, suc, ◌+◌, ◌-◌, ◌*◌}
 use denote.Param.Members.{Mut}
 use Rattle.std.specs.Array.{IsFromFnResult}
 use Rattle.std.specs.Fn.{Called}
@@ -8,12 +8,10 @@ use mathlib.Core.List.{List, [], ◌∷◌}
 use mathlib.Core.Bool.{false}
 use Rattle.std.proofs.Common.{lt-ltb}
 use native.Mathlib.Omega.{arith}
-use native.Mathlib.Numerals.{add-one}
 use lib.ListN.{length}
 use lib.Dec.{ltb}
 use Rattle.rules.specs.declared.entry.Entry.{Entry}
 use Rattle.rules.specs.declared.kind.Kind.TheVariants.{Vlan}
-use Rattle.rules.specs.declared.kind.RoomSource.TheVariants as S
 use Rattle.rules.specs.declared.place.Header.{Header}
 use Rattle.rules.specs.declared.place.Number.TheVariants.{Link}
 use Rattle.rules.specs.declared.stop.Stop.{Stop}
@@ -21,7 +19,7 @@ use Rattle.rules.specs.Numbers.{ethernet_length, tag_length, tag_limit}
 use Rattle.rules.specs.Test.{pick}
 use Rattle.rules.specs.Place.{next, follow, opening, ending_on_paper}
 use Rattle.rules.specs.Walk.{slices}
-use Rattle.laws.specs.Gather.{gather, rest, rest_next, rest_halt}
+use Rattle.laws.specs.Gather.{rest, rest_next, rest_halt}
 use Rattle.one_header.specs.declared.ip.IpKind.{IpKind}
 use Rattle.one_header.specs.declared.ip.IpKind.TheVariants as I
 use Rattle.one_header.specs.declared.link.LinkEnd.{LinkEnd}

@@ -22,26 +22,22 @@ use Rattle.rules.specs.declared.stop.Stop.{Stop}
 use Rattle.rules.specs.declared.stop.Stop.TheVariants as Z
 use Rattle.rules.specs.declared.turn.ChainPlace.{ChainPlace}
 use Rattle.rules.specs.declared.turn.Turn.{Turn}
-use Rattle.rules.specs.Numbers.{ethernet_length, tag_length, tag_limit}
+use Rattle.rules.specs.Numbers.{ethernet_length, tag_length}
 use Rattle.rules.specs.Named.{kind_number}
-use Rattle.rules.specs.Test.{pick}
 use Rattle.rules.specs.Paper.{refusal_on_paper}
 use Rattle.rules.specs.Rules.{rule, link, transport, chain6}
 use Rattle.rules.specs.Place.{room, place, opening, follow, ending_on_paper}
 use Rattle.laws.specs.Gather.{gather, rest}
 use Rattle.headers.specs.declared.transport.TransportHeader.{TransportHeader}
-use Rattle.headers.specs.Says.{ip_says}
-use Rattle.one_header.specs.declared.ip.IpFound.{IpFound}
 use Rattle.one_header.specs.declared.ip.IpKind.{IpKind}
-use Rattle.one_header.specs.At.{Placed, placing, over, setting}
-use Rattle.one_header.specs.Turns.{ip_kind_of, sets_of, first_turn, link_end_on_paper}
+use Rattle.one_header.specs.Turns.{ip_kind_of, first_turn, link_end_on_paper}
 use Rattle.slicer.specs.declared.packet.IpPart.{IpPart}
 use Rattle.slicer.specs.declared.room.RoomSlice.{RoomSlice}
 use Rattle.slicer.specs.declared.link.LinkFound.{LinkFound}
 use Rattle.slicer.specs.declared.net.NetFound.{NetFound}
 use Rattle.slicer.specs.declared.net.ExtsFound.{ExtsFound}
 use Rattle.slicer.specs.declared.transport.TransportFound.{TransportFound}
-use Rattle.slicer.specs.Reply.{Parts, nothing, range, with_link, with_net, with_transport, ip_part, Reply, refused_by, accepted_by, slice_way}
+use Rattle.slicer.specs.Reply.{Parts, nothing, range, with_net, with_transport, ip_part, Reply, refused_by, accepted_by, slice_way}
 
 -- ---- how a leg ends
 

@@ -1,6 +1,6 @@
 -- `net::ipv4_exts_slice` meets its contract. Assumes nothing.
 use Rattle.slicer.proofs.Answers.{handed_on}
-use Rattle.slicer.proofs.Nets.{begun, auth_none, auth_short, auth_in, auth_done}
+use Rattle.slicer.proofs.Nets.{auth_none, auth_short, auth_in, auth_done}
 use Rattle.slicer.specs.Legs.{went}
 use mathlib.Core.Path.{refl}
 use native.Mathlib.Omega.{arith}
@@ -8,20 +8,18 @@ use Rattle.slicer.proofs.net.ipv4_exts_slice.Goals as goal
 
 pub returns-then-not-opens_auth : goal.returns-then-not-opens_auth
 returns-then-not-opens_auth c =
-    went (auth_none (begun _ _ _ _ _ _ c.args.room.ordered c.args.room.inside) c.opens_auth.ensures c.if-not-opens_auth.true)
+    went (auth_none c.args.room _ _ c.opens_auth.ensures c.if-not-opens_auth.true)
 
 pub returns-in_err-x : goal.returns-in_err-x
 returns-in_err-x c =
     handed_on _ _ c.from_residual.ensures.1
-    (auth_short (begun _ _ _ _ _ _ c.args.room.ordered c.args.room.inside) c.opens_auth.ensures c.if-not-opens_auth.false c.in_err-x.ensures.answer refl)
+    (auth_short c.args.room _ _ c.opens_auth.ensures c.if-not-opens_auth.false c.in_err-x.ensures.answer refl)
 
 pub overflow_add-result : goal.overflow_add-result
 overflow_add-result c =
-    let a = c.args in
-    let w = begun a.room.frame.now a.begin a.room.at a.room.end a.room.source a.marked a.room.ordered a.room.inside in
-    omega (arith, auth_in w c.opens_auth.ensures c.if-not-opens_auth.false c.in_ok-x.ensures.answer refl, a.room.inside)
+    omega (arith, auth_in c.args.room _ c.args.marked c.opens_auth.ensures c.if-not-opens_auth.false c.in_ok-x.ensures.answer refl, c.args.room.inside)
 
 pub returns : goal.returns
 returns c =
-    went (auth_done (begun _ _ _ _ _ _ c.args.room.ordered c.args.room.inside) c.opens_auth.ensures c.if-not-opens_auth.false c.in_ok-x.ensures.answer refl
+    went (auth_done c.args.room _ _ c.opens_auth.ensures c.if-not-opens_auth.false c.in_ok-x.ensures.answer refl
     c.marks.ensures)

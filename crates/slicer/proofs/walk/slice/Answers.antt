@@ -1,14 +1,12 @@
 -- `walk::slice` meets its contract. Assumes nothing.
-use Rattle.std.proofs.lemmas.Result.{err_from_is_err_and}
-use Rattle.slicer.proofs.Answers.{there, turned}
+use Rattle.slicer.proofs.Answers.{there, turned, told_on}
 use Rattle.slicer.proofs.Slices.{reply_is, to_ip, to_stop}
 use mathlib.Core.Path.{sym, ◌∙◌}
 use Rattle.slicer.proofs.walk.slice.Goals as goal
 
 pub returns-in_err-front-clause-reply : goal.returns-in_err-front-clause-reply
 returns-in_err-front-clause-reply c =
-    let p = err_from_is_err_and c.from_residual.result c.from_residual.ensures.1 in
-    rw (p.1, p.2) (sym (reply_is _ c.args.s.now ∙ turned c.in_err-front.ensures))
+    told_on _ _ c.from_residual.ensures.1 (reply_is _ c.args.s.now ∙ turned c.in_err-front.ensures)
 
 pub returns-in-Opens-clause-reply : goal.returns-in-Opens-clause-reply
 returns-in-Opens-clause-reply c =
