@@ -6,18 +6,18 @@ use mathlib.Core.Path.{refl}
 use native.Mathlib.Omega.{arith}
 use Rattle.slicer.proofs.link.slice_ether_type.Goals as goal
 
-pub returns-in-Ends : goal.returns-in-Ends
-returns-in-Ends c =
+pub returns : goal.returns
+returns c =
     went (tags_done c.loop-turn.invariant _ c.link_turn.ensures c.in-Ends.is)
 
-pub returns-in_err-number-in-Tag : goal.returns-in_err-number-in-Tag
-returns-in_err-number-in-Tag c =
-    handed_on _ _ c.from_residual.ensures.1 (tag-cut c.loop-turn.invariant _ c.link_turn.ensures c.in-Tag.is c.in_err-number-in-Tag.ensures.answer refl)
+pub returns-in_err-next-in-Tag : goal.returns-in_err-next-in-Tag
+returns-in_err-next-in-Tag c =
+    handed_on _ _ c.from_residual.ensures.1 (tag-cut c.loop-turn.invariant _ c.link_turn.ensures c.in-Tag.is c.in_err-next-in-Tag.ensures.answer refl)
 
 pub loop-turn-smaller : goal.loop-turn-smaller
 loop-turn-smaller c =
-    omega (arith, tag_in c.loop-turn.invariant _ c.link_turn.ensures c.in-Tag.is c.in_ok-number-in-Tag.ensures.answer refl)
+    omega (arith, tag_in c.loop-turn.invariant _ c.link_turn.ensures c.in-Tag.is c.in_ok-next-in-Tag.ensures.answer refl)
 
 pub loop-turn-preserved : goal.loop-turn-preserved
 loop-turn-preserved c =
-    tag_on c.loop-turn.invariant _ c.link_turn.ensures c.in-Tag.is c.in_ok-number-in-Tag.ensures.answer refl
+    tag_on c.loop-turn.invariant _ c.link_turn.ensures c.in-Tag.is c.in_ok-next-in-Tag.ensures.answer refl

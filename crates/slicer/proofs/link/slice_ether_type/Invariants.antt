@@ -7,7 +7,7 @@ use Prim.Native.Nat.{◌-◌}
 use Rattle.slicer.proofs.link.slice_ether_type.Given as goal
 
 abbrev pub invariant-loop-turn : goal.invariant-loop-turn
-invariant-loop-turn l = Tagging l.s (on_link l.s 0 l.initial.number ethernet_length) l.number l.at l.tags
+invariant-loop-turn l = Tagging l.s (on_link l.s 0 l.initial.next ethernet_length) l.next l.at l.tags
 
 abbrev pub decreases-loop-turn : goal.decreases-loop-turn
 decreases-loop-turn l = length l.s - l.at
