@@ -34,6 +34,8 @@ use Rattle.steps.specs.Lists.{count_on_paper}
 use Rattle.laws.specs.Zeros.{zeros}
 use Rattle.checksum.specs.Sum.{add_slice, answer, without_zero}
 use Rattle.tcp_options.specs.declared.answer.OptionRefusal.{OptionRefusal}
+use Rattle.tcp_options.specs.declared.answer.TcpOption.{TcpOption}
+use Rattle.tcp_options.specs.Paper.{option_on_paper}
 use Rattle.tcp_options.specs.declared.answer.OptionRow.{OptionRow}
 use Rattle.tcp_options.specs.declared.kind.OptionKind.{OptionKind}
 use Rattle.tcp_options.specs.Options.{options, option_of, number_of}
