@@ -22,12 +22,12 @@ use Rattle.rules.specs.Place.{ending_on_paper}
 use Rattle.rules.specs.Walk.{Answer, is, no-more, refusal}
 use Rattle.headers.specs.Says.{read_on_paper}
 use Rattle.one_header.specs.declared.ip.IpKind.TheVariants as IK
-use Rattle.one_header.specs.declared.link.LinkEnd.TheVariants as Le
+use Rattle.one_header.specs.declared.onward.Onward.TheVariants as Le
 use Rattle.one_header.specs.declared.link.LinkTurn.{LinkTurn}
 use Rattle.one_header.specs.declared.link.LinkTurn.TheVariants as Lt
 use Rattle.one_header.specs.declared.transport.TransportKind.TheVariants as TK
-use Rattle.one_header.specs.declared.transport.TransportTurn.{TransportTurn}
-use Rattle.one_header.specs.declared.transport.TransportTurn.TheVariants as TT
+use Rattle.one_header.specs.declared.transport.TransportKind.{TransportKind}
+use Rattle.one_header.specs.declared.onward.Onward.{Onward}
 use Rattle.one_header.specs.At.{Placed, at_on_paper}
 use Rattle.one_header.specs.At as A
 use Rattle.one_header.specs.Turns.{link_turn_on_paper, transport_turn_on_paper}
@@ -131,14 +131,14 @@ link_turn_same (Lt.Ends (Le.Stops stop)) = refl
 pub link_turn_back : Back link_turn_on_paper
 link_turn_back = record { back = link_turn_of; same = link_turn_same }
 
-transport_turn_of : Turn → TransportTurn
-transport_turn_of (U.Opens k) = TT.Opens (pick (eqb (kind_number k) (kind_number K.Udp)) TK.Udp TK.Tcp)
-transport_turn_of (U.Stops stop) = TT.Stops stop
-transport_turn_of U.LateHopByHop = TT.Opens TK.Udp
+transport_turn_of : Turn → Onward TransportKind
+transport_turn_of (U.Opens k) = Le.Opens (pick (eqb (kind_number k) (kind_number K.Udp)) TK.Udp TK.Tcp)
+transport_turn_of (U.Stops stop) = Le.Stops stop
+transport_turn_of U.LateHopByHop = Le.Opens TK.Udp
 
 pub transport_turn_back : Back transport_turn_on_paper
 unfolding transport_turn_of
-transport_turn_back = record { back = transport_turn_of; same = elim [ TT.Opens TK.Udp ↦ refl | TT.Opens TK.Tcp ↦ refl | TT.Stops stop ↦ refl ] }
+transport_turn_back = record { back = transport_turn_of; same = elim [ Le.Opens TK.Udp ↦ refl | Le.Opens TK.Tcp ↦ refl | Le.Stops stop ↦ refl ] }
 
 -- ---- the slicer's answers
 

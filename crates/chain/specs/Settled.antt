@@ -37,7 +37,7 @@ use Rattle.headers.specs.declared.net.ExtHeader.{ExtHeader}
 use Rattle.headers.specs.declared.transport.TransportHeader.{TransportHeader}
 use Rattle.rules.specs.declared.ether_type.EtherType.{EtherType}
 use Rattle.one_header.specs.declared.ext.ExtKind.{ExtKind}
-use Rattle.one_header.specs.declared.transport.TransportTurn.{TransportTurn}
+use Rattle.one_header.specs.declared.onward.Onward.{Onward}
 use Rattle.one_header.specs.declared.header.HeaderFound.{HeaderFound}
 use Rattle.one_header.specs.At.{placing, over, setting, transport_says, at_on_paper}
 use Rattle.one_header.specs.Turns.{link_kind_of, ip_kind_of, sets_of, ext_kind_of, link_turn_on_paper, transport_turn_on_paper}
@@ -129,7 +129,7 @@ pub link_turn : (n tags : ℕ) → Settles (λ (r : LinkTurn). (p : Room) → p.
 unfolding any_room
 link_turn n tags x y e f = settled_by link_turn_back (e (any_room tags false) refl) (f (any_room tags false) refl)
 
-pub transport_turn : (n : ℕ) (mark : Bool) → Settles (λ (r : TransportTurn). (p : Room) → p.mark ≡ mark → transport_turn_on_paper r ≡ transport p n)
+pub transport_turn : (n : ℕ) (mark : Bool) → Settles (λ (r : Onward TransportKind). (p : Room) → p.mark ≡ mark → transport_turn_on_paper r ≡ transport p n)
 unfolding any_room
 transport_turn n mark x y e f = settled_by transport_turn_back (e (any_room 0 mark) refl) (f (any_room 0 mark) refl)
 

@@ -25,7 +25,7 @@ use Rattle.one_header.specs.declared.ext.ExtTurn.{ExtTurn}
 use Rattle.one_header.specs.declared.ip.IpKind.{IpKind}
 use Rattle.one_header.specs.declared.link.LinkTurn.{LinkTurn}
 use Rattle.one_header.specs.declared.transport.TransportKind.{TransportKind}
-use Rattle.one_header.specs.declared.transport.TransportTurn.{TransportTurn}
+use Rattle.one_header.specs.declared.onward.Onward.{Onward}
 use Rattle.one_header.specs.Turns.{ext_kind_of, ip_kind_of, sets_of, version_of, transport_kind_of, ext_turn, link_turn_on_paper, transport_turn_on_paper}
 use Rattle.slicer.specs.declared.packet.IpPart.{IpPart}
 use Rattle.steps.specs.declared.place.NoStep.{NoStep}
@@ -115,7 +115,7 @@ transport_kind self = by_value (transport_kind_of self)
 pub link_turn_kind : (self : LinkTurn) → Settles (λ (r : Turn). r ≡ link_turn_on_paper self)
 link_turn_kind self = by_value (link_turn_on_paper self)
 
-pub transport_turn_kind : (self : TransportTurn) → Settles (λ (r : Turn). r ≡ transport_turn_on_paper self)
+pub transport_turn_kind : (self : Onward TransportKind) → Settles (λ (r : Turn). r ≡ transport_turn_on_paper self)
 transport_turn_kind self = by_value (transport_turn_on_paper self)
 
 pub ext-turn : (n : ℕ) (place : ChainPlace) → Settles (λ (r : ExtTurn). r ≡ ext_turn place n)

@@ -18,8 +18,8 @@ use Rattle.one_header.specs.declared.ip.IpKind.{IpKind}
 use Rattle.one_header.specs.declared.ip.IpKind.TheVariants as I
 use Rattle.one_header.specs.declared.link.LinkKind.{LinkKind}
 use Rattle.one_header.specs.declared.link.LinkKind.TheVariants as N
-use Rattle.one_header.specs.declared.link.LinkEnd.{LinkEnd}
-use Rattle.one_header.specs.declared.link.LinkEnd.TheVariants as E
+use Rattle.one_header.specs.declared.onward.Onward.{Onward}
+use Rattle.one_header.specs.declared.onward.Onward.TheVariants as E
 use Rattle.one_header.specs.declared.link.LinkTurn.{LinkTurn}
 use Rattle.one_header.specs.declared.link.LinkTurn.TheVariants as L
 use Rattle.one_header.specs.declared.ext.ExtKind.{ExtKind}
@@ -28,8 +28,6 @@ use Rattle.one_header.specs.declared.ext.ExtTurn.{ExtTurn}
 use Rattle.one_header.specs.declared.ext.ExtTurn.TheVariants as T
 use Rattle.one_header.specs.declared.transport.TransportKind.{TransportKind}
 use Rattle.one_header.specs.declared.transport.TransportKind.TheVariants as Y
-use Rattle.one_header.specs.declared.transport.TransportTurn.{TransportTurn}
-use Rattle.one_header.specs.declared.transport.TransportTurn.TheVariants as U
 
 -- ---- the code's kinds and turns on paper
 
@@ -61,17 +59,19 @@ ext_kind_of X.Destination = K.Destination
 ext_kind_of X.Fragment = K.Fragment
 ext_kind_of X.Auth = K.Auth
 
-abbrev pub link_end_on_paper : LinkEnd → Turn
-link_end_on_paper (E.Opens k) = Opens (ip_kind_of k)
-link_end_on_paper (E.Stops stop) = Stops stop
+abbrev pub onward_on_paper : {K : Type 0} → (K → Kind) → Onward K → Turn
+onward_on_paper kind_of (E.Opens k) = Opens (kind_of k)
+onward_on_paper kind_of (E.Stops stop) = Stops stop
+
+abbrev pub link_end_on_paper : Onward IpKind → Turn
+link_end_on_paper = onward_on_paper ip_kind_of
 
 abbrev pub link_turn_on_paper : LinkTurn → Turn
 link_turn_on_paper L.Tag = Opens K.Vlan
 link_turn_on_paper (L.Ends e) = link_end_on_paper e
 
-abbrev pub transport_turn_on_paper : TransportTurn → Turn
-transport_turn_on_paper (U.Opens k) = Opens (transport_kind_of k)
-transport_turn_on_paper (U.Stops stop) = Stops stop
+abbrev pub transport_turn_on_paper : Onward TransportKind → Turn
+transport_turn_on_paper = onward_on_paper transport_kind_of
 
 -- ---- numbers of a chain
 

@@ -7,11 +7,13 @@ mod ext;
 mod header;
 mod ip;
 mod link;
+mod onward;
 mod place;
 mod transport;
 
 pub use ext::{ExtKind, ExtTurn, ext_at, ext_turn};
 pub use header::{HeaderFound, header_at};
 pub use ip::{IpFound, IpKind, ip_at, opens_auth};
-pub use link::{LinkEnd, LinkKind, LinkTurn, link_at, link_turn};
-pub use transport::{TransportKind, TransportTurn, stop_behind, transport_at, transport_turn};
+pub use link::{LinkKind, LinkTurn, link_at, link_turn};
+pub use onward::Onward;
+pub use transport::{TransportKind, stop_behind, transport_at, transport_turn};

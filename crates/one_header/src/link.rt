@@ -7,6 +7,7 @@ ghost use Rattle.one_header.specs.At.{at_on_paper, placing};
 ghost use Rattle.one_header.specs.Turns.{link_kind_of, link_turn_on_paper};
 
 use crate::ip::IpKind;
+use crate::onward::Onward;
 use crate::place::placed;
 use rules::ether_type::TAG_LIMIT;
 use rules::{EtherType, Kind, Refusal, RoomSource, Stop, Turn, ether_type};
@@ -33,17 +34,11 @@ pub fn link_at(
     }
 }
 
-// What ends a tag walk: an IP header, or a stop.
-#[derive(Clone, Copy)]
-pub enum LinkEnd {
-    Opens(IpKind),
-    Stops(Stop),
-}
-
+// A tag, or what ends a tag walk: an IP header, or a stop.
 #[derive(Clone, Copy)]
 pub enum LinkTurn {
     Tag,
-    Ends(LinkEnd),
+    Ends(Onward<IpKind>),
 }
 
 impl From<LinkTurn> for Turn {
@@ -52,8 +47,7 @@ impl From<LinkTurn> for Turn {
     fn from(turn: LinkTurn) -> Turn {
         match turn {
             LinkTurn::Tag => Turn::Opens(Kind::Vlan),
-            LinkTurn::Ends(LinkEnd::Opens(kind)) => Turn::Opens(Kind::from(kind)),
-            LinkTurn::Ends(LinkEnd::Stops(stop)) => Turn::Stops(stop),
+            LinkTurn::Ends(onward) => Turn::from(onward),
         }
     }
 }
@@ -82,13 +76,13 @@ pub fn link_turn(number: EtherType, tags: usize) -> LinkTurn
         if tags < TAG_LIMIT {
             return LinkTurn::Tag;
         }
-        return LinkTurn::Ends(LinkEnd::Stops(Stop::TagsFull));
+        return LinkTurn::Ends(Onward::Stops(Stop::TagsFull));
     }
     if n == ether_type::IPV4 {
-        return LinkTurn::Ends(LinkEnd::Opens(IpKind::Ipv4));
+        return LinkTurn::Ends(Onward::Opens(IpKind::Ipv4));
     }
     if n == ether_type::IPV6 {
-        return LinkTurn::Ends(LinkEnd::Opens(IpKind::Ipv6));
+        return LinkTurn::Ends(Onward::Opens(IpKind::Ipv6));
     }
-    LinkTurn::Ends(LinkEnd::Stops(Stop::EtherTypeNotOpened))
+    LinkTurn::Ends(Onward::Stops(Stop::EtherTypeNotOpened))
 }

@@ -7,6 +7,7 @@ ghost use Rattle.headers.specs.Says.{read_on_paper};
 ghost use Rattle.one_header.specs.At.{at_on_paper, placing, transport_says};
 ghost use Rattle.one_header.specs.Turns.{transport_kind_of, transport_turn_on_paper};
 
+use crate::onward::Onward;
 use crate::place::placed;
 use headers::TransportHeader;
 use rules::{IpNumber, Kind, Refusal, RoomSource, Stop, Turn, ip_number};
@@ -51,37 +52,20 @@ pub fn stop_behind() -> Stop
     Stop::TransportRead
 }
 
-#[derive(Clone, Copy)]
-pub enum TransportTurn {
-    Opens(TransportKind),
-    Stops(Stop),
-}
-
-impl From<TransportTurn> for Turn {
-    ghost from_gives = { λ turn result. result ≡ transport_turn_on_paper turn };
-
-    fn from(turn: TransportTurn) -> Turn {
-        match turn {
-            TransportTurn::Opens(kind) => Turn::Opens(Kind::from(kind)),
-            TransportTurn::Stops(stop) => Turn::Stops(stop),
-        }
-    }
-}
-
 // Where a number leads that opens no extension, in a packet that is marked as fragmented or is not.
 // `TRANS-1` to `TRANS-4`
-pub fn transport_turn(number: IpNumber, mark: bool) -> TransportTurn
+pub fn transport_turn(number: IpNumber, mark: bool) -> Onward<TransportKind>
     ensures { (p : R) → p.mark ≡ mark → transport_turn_on_paper result ≡ transport p number.0 }
 {
     let n = number.0;
     if mark {
-        return TransportTurn::Stops(Stop::Fragment);
+        return Onward::Stops(Stop::Fragment);
     }
     if n == ip_number::UDP {
-        return TransportTurn::Opens(TransportKind::Udp);
+        return Onward::Opens(TransportKind::Udp);
     }
     if n == ip_number::TCP {
-        return TransportTurn::Opens(TransportKind::Tcp);
+        return Onward::Opens(TransportKind::Tcp);
     }
-    TransportTurn::Stops(Stop::IpNumberNotOpened)
+    Onward::Stops(Stop::IpNumberNotOpened)
 }

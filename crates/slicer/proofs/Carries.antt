@@ -26,8 +26,8 @@ use Rattle.laws.specs.Parts.{In, stands}
 use Rattle.headers.specs.declared.transport.TransportHeader.{TransportHeader}
 use Rattle.one_header.specs.declared.transport.TransportKind.{TransportKind}
 use Rattle.one_header.specs.declared.transport.TransportKind.TheVariants as T
-use Rattle.one_header.specs.declared.transport.TransportTurn.{TransportTurn}
-use Rattle.one_header.specs.declared.transport.TransportTurn.TheVariants as U
+use Rattle.one_header.specs.declared.onward.Onward.{Onward}
+use Rattle.one_header.specs.declared.onward.Onward.TheVariants as U
 use Rattle.one_header.specs.Turns.{transport_kind_of, transport_turn_on_paper}
 use Rattle.one_header.specs.At.{Placed, here, refused, placing, transport_says, here_whole}
 use Rattle.one_header.specs.Header.{transport_header}
@@ -37,7 +37,7 @@ use Rattle.slicer.specs.Legs.{on_turn, net_room, on_transport, stopped_at, opene
 use Rattle.slicer.proofs.ReadersAt.{Reads, made, whole_is, no, number_by, transport_read, toward}
 
 -- what a number leads to behind the extensions, as transport_turn promises it
-abbrev Turned : TransportTurn → IpNumber → Bool → Type 0
+abbrev Turned : Onward TransportKind → IpNumber → Bool → Type 0
 Turned u number mark = (p : Room) → p.mark ≡ mark → transport_turn_on_paper u ≡ transport p number.0
 
 -- only 17 opens UDP, only 6 TCP
@@ -77,8 +77,8 @@ putting : (k : TransportKind) (f : Parts) (e : HeaderAt) → put (transport_kind
 putting T.Udp f e = refl
 putting T.Tcp f e = refl
 
-module _ (r : RoomSlice) (named : IpNumber) (mark : Bool) {u : TransportTurn} (ue : Turned u named mark) where
-  by_turn : {v : TransportTurn} → u ≡ v → (f : Parts) (j : Kind) (t i : ℕ) → on_transport r.frame.now f (net_room j r.end t i r.source mark) named r.at
+module _ (r : RoomSlice) (named : IpNumber) (mark : Bool) {u : Onward TransportKind} (ue : Turned u named mark) where
+  by_turn : {v : Onward TransportKind} → u ≡ v → (f : Parts) (j : Kind) (t i : ℕ) → on_transport r.frame.now f (net_room j r.end t i r.source mark) named r.at
       ≡ on_turn r.frame.now f (transport_turn_on_paper v) (net_room j r.end t i r.source mark) r.at (Ip named)
   by_turn q f j t i = toward r.frame.now f (net_room j r.end t i r.source mark) r.at (Ip named) (sym (ue (net_room j r.end t i r.source mark) refl) ∙ ap transport_turn_on_paper q)
 

@@ -22,8 +22,8 @@ use Rattle.rules.specs.Walk.{slices}
 use Rattle.laws.specs.Gather.{rest, rest_next, rest_halt}
 use Rattle.one_header.specs.declared.ip.IpKind.{IpKind}
 use Rattle.one_header.specs.declared.ip.IpKind.TheVariants as I
-use Rattle.one_header.specs.declared.link.LinkEnd.{LinkEnd}
-use Rattle.one_header.specs.declared.link.LinkEnd.TheVariants as D
+use Rattle.one_header.specs.declared.onward.Onward.{Onward}
+use Rattle.one_header.specs.declared.onward.Onward.TheVariants as D
 use Rattle.one_header.specs.Turns.{link_end_on_paper, ip_kind_of}
 use Rattle.slicer.specs.declared.link.LinkFound.{LinkFound}
 use Rattle.slicer.specs.Reply.{nothing, range, no_header, slots, accepted_by, Reply, reply_of, slice_way}
@@ -81,7 +81,7 @@ entering I.Ipv4 x = refl
 entering I.Ipv6 x = refl
 
 module _ {before : Reply} (x : LinkFound) (w : LinkDone before x) where
-  at_turn : {e : LinkEnd} → x.turn ≡ e
+  at_turn : {e : Onward IpKind} → x.turn ≡ e
       → before ≡ on_turn x.room.frame.now (link_parts x.linked x.tags) (link_end_on_paper e) (room_behind x) x.room.at (Link x.number)
   at_turn e = w ∙ toward x.room.frame.now (link_parts x.linked x.tags) (room_behind x) x.room.at (Link x.number) (ap link_end_on_paper e)
 

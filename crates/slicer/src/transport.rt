@@ -4,7 +4,7 @@ ghost use Rattle.slicer.specs.Legs.{Carried, leg_on_paper, opened_at, stopped_at
 
 use crate::room::RoomSlice;
 use headers::TransportHeader;
-use one_header::{TransportTurn, stop_behind, transport_at, transport_turn};
+use one_header::{Onward, stop_behind, transport_at, transport_turn};
 use rules::{Ending, Header, IpNumber, Kind, Number, Range, Refusal, Stop};
 
 // In the other order of fields a slice takes 251 instructions for 244.
@@ -57,8 +57,8 @@ pub fn slice_transport(
     ensures { Carried room.entry mark number (leg_on_paper result) }
 {
     match transport_turn(number, mark) {
-        TransportTurn::Stops(stop) => Ok(unopened(room, number, stop)),
-        TransportTurn::Opens(kind) => {
+        Onward::Stops(stop) => Ok(unopened(room, number, stop)),
+        Onward::Opens(kind) => {
             let x = transport_at(&room.frame[room.at..room.end], kind, room.at, room.source)?;
             Ok(opened(number, Kind::from(kind), room.at, x))
         }

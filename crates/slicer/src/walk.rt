@@ -10,7 +10,7 @@ use crate::link::{LinkFound, slice_link};
 use crate::net::slice_ip;
 use crate::packet::{IpPart, SlicedPacket};
 use crate::transport::slice_transport;
-use one_header::{IpKind, LinkEnd};
+use one_header::{IpKind, Onward};
 use rules::ether_type::TAG_LIMIT;
 use rules::{Ending, Entry, Header, Kind, Number, Refusal, length};
 use std::array;
@@ -71,8 +71,8 @@ pub fn slice(s: &[u8], entry: Entry) -> Result<SlicedPacket, Refusal>
 {
     let front = slice_link(s, entry)?;
     match front.turn {
-        LinkEnd::Opens(kind) => behind_link(front, kind),
-        LinkEnd::Stops(stop) => {
+        Onward::Opens(kind) => behind_link(front, kind),
+        Onward::Stops(stop) => {
             let ending = Ending {
                 payload: front.room.payload(),
                 number: Number::Link(front.number),
