@@ -45,7 +45,14 @@ returns-then-have-total-clause-answer c =
 pub returns-clause-answer : goal.returns-clause-answer
 unfolding says tests_by seen_by
 returns-clause-answer c =
-    λ v. simp (← c.byte.ensures.answer, ← c.from-first.ensures, ← c.be16.ensures.answer, ← c.from-total.ensures, ← c.be16-word.ensures.answer,
-    ← c.by-fragment.ensures, ← c.byte-2.ensures.answer) (judged (on c.if-have-lt-IPV4.false (on c.if-version-ne4.false
+    λ v. simp (
+      ← c.byte.ensures.answer,
+      ← c.from-first.ensures,
+      ← c.be16.ensures.answer,
+      ← c.from-total.ensures,
+      ← c.be16-word.ensures.answer,
+      ← c.by-fragment.ensures,
+      ← c.byte-2.ensures.answer,
+    ) (judged (on c.if-have-lt-IPV4.false (on c.if-version-ne4.false
     (on c.if-ihl-lt-LEAST_WORDS.false (on c.if-have-len.false (on c.if-total-len.false (on c.if-have-total.false
     (done (rw (ne_eqb c.from-total.result 0 (λ e. omega (arith, e, c.if-total-len.false, c.if-ihl-lt-LEAST_WORDS.false))) refl)))))))))

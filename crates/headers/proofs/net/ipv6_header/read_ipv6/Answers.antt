@@ -21,8 +21,14 @@ returns-then-version-ne6-clause-answer c =
 pub returns-then-payload-eq0-clause-answer : goal.returns-then-payload-eq0-clause-answer
 unfolding says tests_by seen_by
 returns-then-payload-eq0-clause-answer c =
-    λ v. simp (← c.byte.ensures.answer, ← c.from-version.ensures, ← c.be16.ensures.answer, ← c.from-payload.ensures,
-    ← c.byte-2.ensures.answer, eq-eqb _ 0 c.if-payload-eq0.true) (judged (on c.if-have-lt-IPV6.false (on c.if-version-ne6.false (on (omega arith)
+    λ v. simp (
+      ← c.byte.ensures.answer,
+      ← c.from-version.ensures,
+      ← c.be16.ensures.answer,
+      ← c.from-payload.ensures,
+      ← c.byte-2.ensures.answer,
+      eq-eqb _ 0 c.if-payload-eq0.true,
+    ) (judged (on c.if-have-lt-IPV6.false (on c.if-version-ne6.false (on (omega arith)
     (done (refl))))))
 
 pub returns-then-have-declared-clause-answer : goal.returns-then-have-declared-clause-answer
@@ -34,6 +40,12 @@ returns-then-have-declared-clause-answer c =
 pub returns-clause-answer : goal.returns-clause-answer
 unfolding says tests_by seen_by
 returns-clause-answer c =
-    λ v. simp (← c.byte.ensures.answer, ← c.from-version.ensures, ← c.be16.ensures.answer, ← c.from-payload.ensures,
-    ← c.byte-2.ensures.answer, ne_eqb _ 0 c.if-payload-eq0.false) (judged (on c.if-have-lt-IPV6.false (on c.if-version-ne6.false
+    λ v. simp (
+      ← c.byte.ensures.answer,
+      ← c.from-version.ensures,
+      ← c.be16.ensures.answer,
+      ← c.from-payload.ensures,
+      ← c.byte-2.ensures.answer,
+      ne_eqb _ 0 c.if-payload-eq0.false,
+    ) (judged (on c.if-have-lt-IPV6.false (on c.if-version-ne6.false
     (on c.if-have-declared.false (done (rw (ne_eqb (40 + c.from-payload.result) 0 (λ e. omega (arith, e))) refl))))))
