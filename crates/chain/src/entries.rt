@@ -1,4 +1,4 @@
-// The three entries by name, and the whole reply: bytes past a declared length alter nothing of it.
+// The three entries by name, each with its own tie, since each is a public function; and the whole reply: bytes past a declared length alter nothing of it.
 ghost use Rattle.std.specs.Prelude.{◌≡◌, List, ℕ, Err};
 ghost use Rattle.rules.specs.declared.entry.Entry.TheVariants as E;
 ghost use Rattle.rules.specs.declared.refusal.Refusal.{Refusal};

@@ -1,4 +1,4 @@
-// Sums of two slices, added one after the other: what the table of frames has for them (F10, F11).
+// Each of the two answers of a sum has its own tie, since each is a public function. Sums of two slices, added one after the other: what the table of frames has for them (F10, F11).
 ghost use Rattle.std.specs.Prelude.{◌≡◌, [], ◌∷◌};
 ghost use Rattle.chain.specs.Frames.{ask, sum, no_zero, checksum};
 

@@ -8,7 +8,7 @@ use tcp_options::OptionRow;
 // that was compiled against another one can tell.
 pub const INTERFACE: usize = 2;
 
-// Statuses. Accepted, or what was asked for is there.
+// Statuses, and values beside them: C has no Option and no Result. Accepted, or what was asked for is there.
 pub const THERE: usize = 0;
 
 pub const NO_MORE: usize = 1;

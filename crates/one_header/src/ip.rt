@@ -50,8 +50,7 @@ impl From<IpKind> for RoomSource {
     }
 }
 
-// An IP header and the room that it sets: where that ends, counted from the header, and what set it. This and other answers that
-// stand beside a refusal end in a usize, since a refusal ends in a byte (docs/ARCHITECTURE.md, Layout of types).
+// An IP header and the room that it sets: where that ends, counted from the header, and what set it.
 #[derive(Clone, Copy)]
 pub struct IpFound {
     pub len: usize,

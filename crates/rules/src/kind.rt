@@ -19,6 +19,7 @@ pub enum Kind {
 }
 
 impl Kind {
+    // The paper's number. A method here and at the enums below and no `From`: `usize::from(kind)` doesn't say which number.
     pub fn number(self) -> usize
         ensures { result ≡ kind_number self }
     {

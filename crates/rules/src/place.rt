@@ -31,7 +31,8 @@ pub struct Place {
     pub kind: Kind,
 }
 
-// A header's answer: the number of its kind, its offset and its length. No kind has the number 0: a slot of zeros is no header.
+// A header's answer: the number of its kind, its offset and its length. No kind has the number 0: a slot of zeros is no header. C reads this
+// struct, so the kind is a number and no `Kind`.
 #[repr(C)]
 #[derive(Clone, Copy, Debug, Default, PartialEq, Eq)]
 pub struct Header {

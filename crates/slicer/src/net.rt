@@ -25,7 +25,7 @@ pub struct ExtsFound {
     pub mark: bool,
 }
 
-// IPv4 opens AUTH at most, and once.
+// IPv4 opens AUTH at most, and once. Apart from the chain of IPv6: one loop for both was tried and takes more (docs/SPEED.md).
 fn ipv4_exts_slice(room: RoomSlice, begin: IpNumber, marked: bool) -> Result<ExtsFound, Refusal>
     ensures { Extended room.entry K.Ipv4 begin marked (leg_on_paper result) }
 {

@@ -83,6 +83,7 @@ pub fn slice(s: &[u8], entry: Entry) -> Result<SlicedPacket, Refusal>
     }
 }
 
+// A function for each entry, by the names of the crate etherparse, which documents name.
 impl SlicedPacket {
     // A whole Ethernet II frame, without the frame check sequence.
     pub fn from_ethernet(s: &[u8]) -> Result<Self, Refusal>

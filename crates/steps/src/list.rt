@@ -66,7 +66,8 @@ fn walk(s: &[u8], entry: Entry, k: usize, out: &mut [usize]) -> Result<usize, Re
 }
 
 // The headers of a frame from number k on, three numbers each (kind, offset, length), as many as the lent numbers have room for, and
-// zeros behind them; the answer is how many headers the frame has. Of a refused frame there are zeros alone.
+// zeros behind them; the answer is how many headers the frame has. Of a refused frame there are zeros alone. Numbers and no `Header`s: C lends
+// them, as many as it likes.
 pub fn headers(s: &[u8], entry: Entry, k: usize, out: &mut [usize]) -> Result<usize, Refusal>
     ensures answer { count_on_paper result ≡ count_of (slices entry s.now) }
     ensures listed { out.new ≡ list_of (slices entry s.now) k (length out.old) }
