@@ -38,6 +38,8 @@ use Rattle.headers.specs.declared.transport.TransportHeader.{TransportHeader}
 use Rattle.rules.specs.declared.ether_type.EtherType.{EtherType}
 use Rattle.one_header.specs.declared.ext.ExtKind.{ExtKind}
 use Rattle.one_header.specs.declared.onward.Onward.{Onward}
+use Rattle.one_header.specs.declared.onward.Onward.TheVariants as O
+use Rattle.one_header.specs.Onwards.{leads_by}
 use Rattle.one_header.specs.declared.header.HeaderFound.{HeaderFound}
 use Rattle.one_header.specs.At.{placing, over, setting, transport_says, at_on_paper}
 use Rattle.one_header.specs.Turns.{link_kind_of, ip_kind_of, sets_of, ext_kind_of, link_turn_on_paper, transport_turn_on_paper}
@@ -128,6 +130,11 @@ any_room tags mark = room 0 tags 0 0 S.Slice mark
 pub link_turn : (n tags : ℕ) → Settles (λ (r : LinkTurn). (p : Room) → p.tags ≡ tags → link_turn_on_paper r ≡ link p n)
 unfolding any_room
 link_turn n tags x y e f = settled_by link_turn_back (e (any_room tags false) refl) (f (any_room tags false) refl)
+
+-- `Turn::from` of where a number leads, for any kinds that are settled
+pub onward_turn : {K : Type 0} (kind_of : K → Kind) (o : Onward K) → Settles (λ (r : Turn). leads_by (λ k kind. kind ≡ kind_of k) o r)
+onward_turn kind_of (O.Opens k) x y e f = e.2 ∙ ap T.Opens (e.1 ∙ sym f.1) ∙ sym f.2
+onward_turn kind_of (O.Stops stop) x y e f = same_value e f
 
 pub transport_turn : (n : ℕ) (mark : Bool) → Settles (λ (r : Onward TransportKind). (p : Room) → p.mark ≡ mark → transport_turn_on_paper r ≡ transport p n)
 unfolding any_room
