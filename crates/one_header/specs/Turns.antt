@@ -122,9 +122,9 @@ pub chain4_auth : (p : Room) (n : ℕ) → eqb n auth_number ≡ true → chain4
 unfolding chain4
 chain4_auth p n e = rw e
 
-pub chain4-plain : (p : Room) (n : ℕ) → eqb n auth_number ≡ false → chain4 p n ≡ transport p n
+pub chain4_plain : (p : Room) (n : ℕ) → eqb n auth_number ≡ false → chain4 p n ≡ transport p n
 unfolding chain4
-chain4-plain p n e = rw e
+chain4_plain p n e = rw e
 
 -- ---- the transport rule: what a number opens, or where the walk stops
 

@@ -53,6 +53,7 @@ pub enum ExtTurn {
 }
 
 // `EXT-1` to `EXT-4`
+#[tactic(auto, unfolding(crate::specs::Turns::ext_turn))]
 pub fn ext_turn(number: IpNumber, place: ChainPlace) -> ExtTurn
     ensures { result ≡ ext_turn place number.0 }
 {

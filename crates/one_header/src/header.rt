@@ -59,6 +59,7 @@ fn link_header(
 }
 
 // What the number of an IP header of a version opens.
+#[tactic(auto, using(crate::specs::Turns::chain6_is, crate::specs::Turns::chain4_auth, crate::specs::Turns::chain4_plain))]
 fn first_turn(number: IpNumber, version: IpKind) -> ExtTurn
     ensures { (p : R) → first_turn (version_of version) p number.0 ≡ turn_by result (transport p number.0) }
 {
@@ -74,6 +75,7 @@ fn first_turn(number: IpNumber, version: IpKind) -> ExtTurn
 }
 
 // What the number of an extension opens, in the chain of an IP version.
+#[tactic(auto, using(crate::specs::Turns::chain6_is))]
 fn later_turn(number: IpNumber, chain: IpKind) -> ExtTurn
     ensures { (p : R) → later_turn (version_of chain) p number.0 ≡ turn_by result (transport p number.0) }
 {

@@ -53,6 +53,7 @@ impl From<LinkTurn> for Turn {
 }
 
 // `VLAN-3`
+#[tactic(auto, unfolding(rules::specs::Rules::is_tag))]
 fn is_tag(number: EtherType) -> bool
     ensures { result ≡ is_tag number.0 }
 {
@@ -68,6 +69,7 @@ fn is_tag(number: EtherType) -> bool
 
 // Where an EtherType leads, with so many tags held.
 // `LINK-1` to `LINK-3`, `VLAN-4` to `VLAN-6`
+#[tactic(auto, unfolding(rules::specs::Rules::link))]
 pub fn link_turn(number: EtherType, tags: usize) -> LinkTurn
     ensures { (p : R) → p.tags ≡ tags → link_turn_on_paper result ≡ link p number.0 }
 {

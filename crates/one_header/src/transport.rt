@@ -54,6 +54,7 @@ pub fn stop_behind() -> Stop
 
 // Where a number leads that opens no extension, in a packet that is marked as fragmented or is not.
 // `TRANS-1` to `TRANS-4`
+#[tactic(auto, unfolding(rules::specs::Rules::transport))]
 pub fn transport_turn(number: IpNumber, mark: bool) -> Onward<TransportKind>
     ensures { (p : R) → p.mark ≡ mark → transport_turn_on_paper result ≡ transport p number.0 }
 {

@@ -25,7 +25,7 @@ use Rattle.headers.specs.Says.{ip_says, ext_says}
 use Rattle.one_header.specs.declared.ip.IpFound.{IpFound}
 use Rattle.one_header.specs.declared.ip.IpKind.{IpKind}
 use Rattle.one_header.specs.declared.ip.IpKind.TheVariants as I
-use Rattle.one_header.specs.Turns.{ip_kind_of, sets_of, chain4_auth, chain4-plain}
+use Rattle.one_header.specs.Turns.{ip_kind_of, sets_of, chain4_auth, chain4_plain}
 use Rattle.one_header.specs.At.{Placed, here, refused, placing, over, setting}
 use Rattle.one_header.specs.Header.{ip_header, ext_header}
 use Rattle.slicer.specs.Reply.{Parts, refused_by, slice_way, with_net, ip_part}
@@ -96,7 +96,7 @@ module _ (r : RoomSlice) (begin : IpNumber) (marked : Bool) {c : Bool} (ce : c �
   pub auth_none : c ≡ false → ExtsDone r.frame.now Ipv4 begin r.at r.end r.source marked (record { at = r.at; number = begin; mark = marked })
   auth_none n = record {
     left = λ f h t i. toward r.frame.now (with_net f (ip_part h r.at r.at marked)) (net_room Ipv4 r.end t i r.source marked) r.at (Ip begin)
-        (chain4-plain (net_room Ipv4 r.end t i r.source marked) begin.0 (sym ce ∙ n));
+        (chain4_plain (net_room Ipv4 r.end t i r.source marked) begin.0 (sym ce ∙ n));
     headed = omega arith;
     inside = r.ordered;
   }
