@@ -11,6 +11,7 @@ use crate::outcome_of;
 use rules::{Ending, Entry, Refusal};
 use slicer::SlicedPacket;
 
+#[tactic(auto, using(crate::specs::Accepted::accepted_iff_chain))]
 pub fn from_ethernet(s: &[u8]) -> Result<Ending, Refusal>
     ensures accepted { AcceptedIffChain E.Ethernet s.now result }
     ensures refused { RefusedForAReason E.Ethernet s.now (λ (q : Refusal). result ≡ Err q) }
@@ -19,6 +20,7 @@ pub fn from_ethernet(s: &[u8]) -> Result<Ending, Refusal>
     outcome_of(reply)
 }
 
+#[tactic(auto, using(crate::specs::Accepted::accepted_iff_chain))]
 pub fn from_ipv4(s: &[u8]) -> Result<Ending, Refusal>
     ensures accepted { AcceptedIffChain E.Ipv4 s.now result }
     ensures refused { RefusedForAReason E.Ipv4 s.now (λ (q : Refusal). result ≡ Err q) }
@@ -27,6 +29,7 @@ pub fn from_ipv4(s: &[u8]) -> Result<Ending, Refusal>
     outcome_of(reply)
 }
 
+#[tactic(auto, using(crate::specs::Accepted::accepted_iff_chain))]
 pub fn from_ipv6(s: &[u8]) -> Result<Ending, Refusal>
     ensures accepted { AcceptedIffChain E.Ipv6 s.now result }
     ensures refused { RefusedForAReason E.Ipv6 s.now (λ (q : Refusal). result ≡ Err q) }
@@ -36,6 +39,7 @@ pub fn from_ipv6(s: &[u8]) -> Result<Ending, Refusal>
 }
 
 // Every frame that is alike gets the same reply.
+#[tactic(auto, using(crate::specs::Alike::alike_reply))]
 pub fn reply(s: &[u8], entry: Entry) -> Result<SlicedPacket, Refusal>
     ensures { (t : List ℕ) → Alike entry s.now t → packet_on_paper result ≡ reply_of entry t }
 {

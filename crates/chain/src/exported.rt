@@ -25,12 +25,14 @@ pub fn header(frame: &[u8], entry: usize, k: usize) -> HeaderReply
     bhirkulom_header(frame, entry, k)
 }
 
+#[tactic(auto, using(crate::specs::Exported::count_by))]
 pub fn count(frame: &[u8], entry: usize) -> CountReply
     ensures { (e : Entry) → entry_by entry ≡ Some e → CountTells e frame.now result }
 {
     bhirkulom_count(frame, entry)
 }
 
+#[tactic(auto, using(crate::specs::Exported::count_by, crate::specs::Exported::list_by))]
 pub fn headers(frame: &[u8], entry: usize, k: usize, heads: &mut [usize]) -> CountReply
     ensures counted { (e : Entry) → entry_by entry ≡ Some e → CountTells e frame.now result }
     ensures listed { (e : Entry) → entry_by entry ≡ Some e → ListInOrder e frame.now k (length heads.old) heads.new }
@@ -38,6 +40,7 @@ pub fn headers(frame: &[u8], entry: usize, k: usize, heads: &mut [usize]) -> Cou
     bhirkulom_headers(frame, entry, k, heads)
 }
 
+#[tactic(auto, using(crate::specs::Exported::option_reply_tells))]
 pub fn option(bytes: &[u8], k: usize) -> OptionReply
     ensures { OptionReplyTells bytes.now k result }
 {

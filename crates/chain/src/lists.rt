@@ -6,6 +6,7 @@ ghost use Rattle.chain.specs.Refused.{RefusedForAReason};
 
 use rules::{Entry, Refusal};
 
+#[tactic(auto, using(crate::specs::Headers::count_is_length, crate::specs::Headers::list_in_order))]
 pub fn headers(s: &[u8], entry: Entry, k: usize, out: &mut [usize]) -> Result<usize, Refusal>
     ensures counted { CountIsLength entry s.now result }
     ensures refused { RefusedForAReason entry s.now (λ (q : Refusal). result ≡ Err q) }

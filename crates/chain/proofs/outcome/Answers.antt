@@ -1,11 +1,6 @@
 -- `outcome` meets its contract: the theorems of specs, at the answer that the slicer promises. Assumes nothing.
-use Rattle.chain.specs.Accepted.{accepted_iff_chain}
 use Rattle.chain.specs.Refused.{reply_refused_for_a_reason}
 use Rattle.chain.proofs.outcome.Goals as goal
-
-pub returns-clause-accepted : goal.returns-clause-accepted
-returns-clause-accepted c =
-    rw c.outcome_of-told.ensures (accepted_iff_chain _ _ c.slice-reply.result c.slice-reply.ensures.reply)
 
 pub returns-clause-refused : goal.returns-clause-refused
 returns-clause-refused c =

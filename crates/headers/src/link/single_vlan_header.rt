@@ -7,6 +7,7 @@ use crate::link::read_ether_type;
 use rules::{EtherType, Fault, Kind, field, length};
 
 // `VLAN-1`, `VLAN-2`
+#[tactic(auto, unfolding(rules::specs::Rules::says, rules::specs::Rules::tests_by, rules::specs::Rules::seen_by))]
 pub fn read_vlan(w: &[u8]) -> Result<EtherType, Fault>
     ensures answer { (v : ℕ) → read_on_paper result ≡ link_says K.Vlan v w.now }
     ensures unwritten { w.exit.now ≡ w.entry.now }

