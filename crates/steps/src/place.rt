@@ -70,6 +70,7 @@ pub fn room_behind(kind: Kind, at: usize, x: HeaderFound, room: Room) -> Room
 }
 
 // The kind of a frame's first header.
+#[tactic(auto, unfolding(rules::specs::Place::opening))]
 fn first_kind(entry: Entry) -> Kind
     ensures { (s : List ℕ) → next_place (start result s) ≡ opening entry s }
 {
@@ -81,6 +82,7 @@ fn first_kind(entry: Entry) -> Kind
 }
 
 // The place of a frame's first header.
+#[tactic(auto, unfolding(rules::specs::Place::start))]
 pub fn first(s: &[u8], entry: Entry) -> Place
     ensures answer { opens (next_place result) ≡ opens (opening entry s.now) }
     ensures unwritten { s.exit.now ≡ s.entry.now }
