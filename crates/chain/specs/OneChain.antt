@@ -1,6 +1,6 @@
 -- "it has at most one": two chains of a frame have the same headers and the same stop.
 use Rattle.std.specs.Prelude.{ℕ, ◌≡◌, List}
-use Rattle.std.proofs.Common.{sym, ◌∙◌, arith}
+use Rattle.std.proofs.Common.{sym, ◌∙◌}
 use Rattle.rules.specs.declared.entry.Entry.{Entry}
 use Rattle.rules.specs.declared.place.Place.{Place}
 use Rattle.rules.specs.declared.refusal.Row.{Row}
@@ -28,5 +28,4 @@ one_chain_of e s a b = let z = sym (chain→slices e s a) ∙ chain→slices e s
 pub not_both_of : (e : Entry) (s : List ℕ) {hs hs' : List HeaderAt} {x : Stopped} {r : Row} → ChainOf e s hs x → BrokenOf e s hs' r → ⊥
 not_both_of e s a b =
     let z = sym (chain→slices e s a) ∙ broken→slices e s b in
-    let y : ◌≡◌ {A = ℕ} 0 1 = cc in
-    omega arith
+    cc

@@ -47,10 +47,10 @@ udp-number p n e = go p.mark (eqb n udp_number) refl (eqb n tcp_number) e
   where
     go : (m a : Bool) → eqb n udp_number ≡ a → (b : Bool)
         → pick m (Stops Z.Fragment) (pick a (Opens Udp) (pick b (Opens Tcp) (Stops Z.IpNumberNotOpened))) ≡ Opens Udp → n ≡ udp_number
-    go true a q b e = let z : ◌≡◌ {A = ℕ} 0 1 = cc in absurd (omega arith)
+    go true a q b e = cc
     go false true q b e = eqb-true _ _ q
-    go false false q true e = let z : ◌≡◌ {A = ℕ} 0 1 = cc in absurd (omega arith)
-    go false false q false e = let z : ◌≡◌ {A = ℕ} 0 1 = cc in absurd (omega arith)
+    go false false q true e = cc
+    go false false q false e = cc
 
 tcp-number : (p : Room) (n : ℕ) → transport p n ≡ Opens Tcp → n ≡ tcp_number
 unfolding transport
@@ -58,10 +58,10 @@ tcp-number p n e = go p.mark (eqb n udp_number) (eqb n tcp_number) refl e
   where
     go : (m a b : Bool) → eqb n tcp_number ≡ b
         → pick m (Stops Z.Fragment) (pick a (Opens Udp) (pick b (Opens Tcp) (Stops Z.IpNumberNotOpened))) ≡ Opens Tcp → n ≡ tcp_number
-    go true a b q e = let z : ◌≡◌ {A = ℕ} 0 1 = cc in absurd (omega arith)
-    go false true b q e = let z : ◌≡◌ {A = ℕ} 0 1 = cc in absurd (omega arith)
+    go true a b q e = cc
+    go false true b q e = cc
     go false false true q e = eqb-true _ _ q
-    go false false false q e = let z : ◌≡◌ {A = ℕ} 0 1 = cc in absurd (omega arith)
+    go false false false q e = cc
 
 -- the number of what a turn opens
 opened-number : (k : TransportKind) (p : Room) (n : ℕ) → transport p n ≡ Opens (transport_kind_of k) → n ≡ number_by k
