@@ -47,6 +47,7 @@ pub fn option(bytes: &[u8], k: usize) -> OptionReply
     bhirkulom_option(bytes, k)
 }
 
+// Each of the two answers of a sum has its own tie, since each is a public function.
 pub fn sum_of(first: &[u8], second: &[u8]) -> u16
     ensures { checksum result ≡ ask (sum_question (first.now ∷ second.now ∷ [])) }
 {

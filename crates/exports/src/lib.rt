@@ -21,7 +21,7 @@ use rules::Entry;
 pub mod handed;
 mod reply;
 
-// An entry by its number.
+// An entry by its number: C's number, so no `TryFrom` of `Entry`, which knows none.
 fn entry_by(number: usize) -> Option<Entry>
     ensures { result ≡ entry_by number }
 {

@@ -3,7 +3,7 @@ ghost use Rattle.std.specs.Prelude.{◌≡◌, [], map, None};
 ghost use Rattle.rules.specs.Numbers.{tag_limit};
 ghost use Rattle.rules.specs.Paper.{refusal_on_paper};
 ghost use Rattle.rules.specs.Place.{ending_on_paper};
-ghost use Rattle.slicer.specs.Reply.{no_header, refused_by};
+ghost use Rattle.slicer.specs.Reply.{refused_by};
 ghost use Rattle.steps.specs.Lists.{count_on_paper};
 ghost use Rattle.tcp_options.specs.Paper.{kind_on_paper, option_on_paper};
 ghost use Rattle.exports.specs.Handed.{
@@ -54,6 +54,7 @@ impl From<IpPart> for Net {
     }
 }
 
+// C's numbers for it: a C struct holds no enum with values.
 fn number_of(number: Number) -> usize
     ensures { result ≡ number_of number }
 {

@@ -21,7 +21,7 @@ fn past(counted: usize) -> usize
     counted
 }
 
-// Header number k of a frame, counted from 0.
+// Header number k of a frame, counted from 0. Its fields are taken out one by one, as in crate `steps`.
 pub fn bhirkulom_header(frame: &[u8], entry: usize, k: usize) -> HeaderReply
     ensures answer { result ≡ header_for (entry_by entry) frame.now k }
     ensures unwritten { frame.exit.now ≡ frame.entry.now }

@@ -169,7 +169,7 @@ fn transport_header(
 }
 
 // The header of a kind at the begin of the bytes w, which stand at `at` and reach to their room's end. Where that room ends, `w` says,
-// and not `room`.
+// and not `room`. A `match`, since the kinds are closed and each has a step of its own.
 pub fn header_at(w: &[u8], kind: Kind, at: usize, room: Room) -> Result<HeaderFound, Refusal>
     ensures answer { header_read_on_paper result at room ≡ read_part w.now kind at room }
     ensures unwritten { w.exit.now ≡ w.entry.now }

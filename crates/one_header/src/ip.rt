@@ -27,7 +27,7 @@ impl From<IpKind> for Kind {
 }
 
 impl IpKind {
-    // The version that stands in the header.
+    // The version that stands in the header. A method and no `From`: `usize::from(kind)` doesn't say which number.
     pub fn number(self) -> usize
         ensures { result ≡ version_of self }
     {

@@ -1,7 +1,7 @@
 // One header at a place: read it, the room that it leaves, where it leads, or its refusal. Both ways to walk stand on this crate:
 // the legs of crate slicer call it with a kind that they know, the step of crate steps with any. Each function is handed the bytes
 // from the header to its room's end, asks nothing of them, and counts from the header what it answers. Bytes, offset and source stay apart,
-// as `header_at`, which documents name, takes them.
+// as they are in `header_at`, which documents name and which hands them on.
 #![tactic(auto)]
 
 mod ext;

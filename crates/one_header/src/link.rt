@@ -52,6 +52,7 @@ impl From<LinkTurn> for Turn {
     }
 }
 
+// An `if` for each number here and in the turns, in the order of the rule, each with a place of its own in the table of numbers (`bin/decisions`).
 // `VLAN-3`
 #[tactic(auto, unfolding(rules::specs::Rules::is_tag))]
 fn is_tag(number: EtherType) -> bool

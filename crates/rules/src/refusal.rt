@@ -115,7 +115,7 @@ pub enum Refusal {
 }
 
 // A refusal as document 01's table has it: its number, its layer's number and its offset, and what else its row
-// carries, in the table's order (required, have, the source's number; or the one value), zeros after that.
+// carries, in the table's order (required, have, the source's number; or the one value), zeros after that. C reads this struct, so all are numbers.
 #[repr(C)]
 #[derive(Clone, Copy, Debug, Default, PartialEq, Eq)]
 pub struct Row {

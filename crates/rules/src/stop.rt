@@ -14,6 +14,7 @@ pub enum Stop {
 }
 
 impl Stop {
+    // A method and no `From`, as of `Kind`.
     pub fn number(self) -> usize
         ensures { result ≡ stop_number self }
     {

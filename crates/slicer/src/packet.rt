@@ -10,7 +10,7 @@ pub struct IpPart {
     pub fragmented: bool,
 }
 
-// The tags stand in an array and a count, since there is no heap and C gets them so; slots past the count are zeros.
+// The tags stand in an array and a count, since there is no heap; slots past the count are zeros.
 #[derive(Clone, Copy, Debug, PartialEq, Eq)]
 pub struct SlicedPacket {
     pub link: Option<Header>,

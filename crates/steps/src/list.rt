@@ -86,7 +86,7 @@ pub fn headers(s: &[u8], entry: Entry, k: usize, out: &mut [usize]) -> Result<us
     }
 }
 
-// Header number k of a frame.
+// Header number k of a frame. Its fields are taken out one by one: with a `From` of three numbers any three would make a header.
 pub fn header(s: &[u8], entry: Entry, k: usize) -> Result<Option<Header>, Refusal>
     ensures answer { header_on_paper result ≡ header_of (slices entry s.now) k }
     ensures unwritten { s.exit.now ≡ s.entry.now }

@@ -70,7 +70,7 @@ impl State {
         summed(sum, rest)
     }
 
-    // Does what a line says. Where it is a case, or is not understood, the answer is whether the case came out the same.
+    // Does what a line says, each letter in its own way. Where it is a case, or is not understood, the answer is whether the case came out the same.
     fn line(&mut self, line: &[u8]) -> Option<bool> {
         let (letter, rest) = line.split_first()?;
         let rest = behind(rest);

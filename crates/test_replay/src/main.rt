@@ -72,7 +72,7 @@ impl Seen {
     }
 }
 
-// The entry by its number in the list. A function, because a `TryFrom` of `Entry` could stand only in its own crate.
+// The entry by its number in the list. The numbers are the list's, so no `TryFrom` of `Entry`, which knows none.
 fn entry_of(number: u8) -> Option<Entry> {
     match number {
         1 => Some(Entry::Ethernet),
