@@ -2,7 +2,7 @@
 // what the header says, or the first test of document 01 that failed. A reader knows nothing of a walk.
 #![tactic(auto)]
 
-ghost use Rattle.std.specs.Prelude.{◌≡◌};
+ghost use Rattle.std.specs.Prelude.{◌≡◌, ◌≤◌, ◌<◌, OnOk, IfErr};
 ghost use Rattle.rules.specs.Paper.{fault_on_paper};
 ghost use Rattle.rules.specs.Test.{short};
 ghost use Rattle.rules.specs.declared.kind.Layer.TheVariants as L;
@@ -26,14 +26,18 @@ pub use transport::TransportHeader;
 pub use transport::tcp_header::read_tcp;
 pub use transport::udp_header::read_udp;
 
-// A header that is not whole in its room.
-fn too_short(kind: Kind, required: usize, have: usize) -> Fault
-    ensures { fault_on_paper result ≡ short (L.Of kind) required have B.Room }
+// Whether so many bytes of a header of this kind are there, in its room.
+fn fits(kind: Kind, required: usize, have: usize) -> Result<(), Fault>
+    ensures ok { OnOk result (required ≤ have) }
+    ensures err { IfErr result (λ f. (have < required) × (fault_on_paper f ≡ short (L.Of kind) required have B.Room)) }
 {
-    Fault::TooShort {
-        required,
-        have,
-        layer: Layer::Of(kind),
-        bound: Bound::Room,
+    if have < required {
+        return Err(Fault::TooShort {
+            required,
+            have,
+            layer: Layer::Of(kind),
+            bound: Bound::Room,
+        });
     }
+    Ok(())
 }

@@ -7,7 +7,7 @@ ghost use Rattle.rules.specs.Test.{judge, fits};
 ghost use Rattle.rules.specs.Rules.{ether_type_of};
 ghost use Rattle.headers.specs.Says.{read_on_paper};
 
-use crate::too_short;
+use crate::fits;
 use big_endian::be16;
 use rules::{EtherType, Fault, Kind};
 
@@ -19,8 +19,6 @@ fn read_ether_type(w: &[u8], kind: Kind, len: usize, at: usize) -> Result<EtherT
     ensures { read_on_paper result ≡ judge (fits (L.Of kind) len (length w.now) B.Room ∷ []) (ether_type_of (number 2 (byte_at w.now) at)) }
 {
     let have = w.len();
-    if have < len {
-        return Err(too_short(kind, len, have));
-    }
+    fits(kind, len, have)?;
     Ok(EtherType(be16(w, at)))
 }

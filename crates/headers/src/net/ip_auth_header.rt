@@ -3,8 +3,8 @@ ghost use Rattle.std.specs.Prelude.{◌≡◌, ℕ};
 ghost use Rattle.headers.specs.Says.{read_on_paper, ext_says};
 ghost use Rattle.rules.specs.declared.kind.Kind.TheVariants as K;
 
+use crate::fits;
 use crate::net::ExtHeader;
-use crate::too_short;
 use big_endian::byte;
 use rules::{Fault, Fragment, IpNumber, Kind, field, length};
 
@@ -14,17 +14,13 @@ pub fn read_auth(w: &[u8]) -> Result<ExtHeader, Fault>
     ensures unwritten { w.exit.now ≡ w.entry.now }
 {
     let have = w.len();
-    if have < length::AUTH {
-        return Err(too_short(Kind::Auth, length::AUTH, have));
-    }
+    fits(Kind::Auth, length::AUTH, have)?;
     let words = usize::from(byte(w, field::EXT_LENGTH));
     if words == 0 {
         return Err(Fault::ZeroAuthLength);
     }
     let len = (words + 2) * 4;
-    if have < len {
-        return Err(too_short(Kind::Auth, len, have));
-    }
+    fits(Kind::Auth, len, have)?;
     Ok(ExtHeader {
         len,
         names: IpNumber(byte(w, field::EXT_NEXT_HEADER)),

@@ -3,8 +3,8 @@ ghost use Rattle.std.specs.Prelude.{◌≡◌, ℕ};
 ghost use Rattle.headers.specs.Says.{read_on_paper, ip_says};
 ghost use Rattle.rules.specs.declared.kind.Kind.TheVariants as K;
 
+use crate::fits;
 use crate::net::IpHeader;
-use crate::too_short;
 use big_endian::{be16, byte};
 use rules::{Bound, Fault, Fragment, IpNumber, Kind, Layer, field, length};
 
@@ -14,9 +14,7 @@ pub fn read_ipv4(w: &[u8]) -> Result<IpHeader, Fault>
     ensures unwritten { w.exit.now ≡ w.entry.now }
 {
     let have = w.len();
-    if have < length::IPV4 {
-        return Err(too_short(Kind::Ipv4, length::IPV4, have));
-    }
+    fits(Kind::Ipv4, length::IPV4, have)?;
     let first = usize::from(byte(w, field::IPV4_VERSION_IHL));
     let version = first / 16;
     if version != 4 {
@@ -27,9 +25,7 @@ pub fn read_ipv4(w: &[u8]) -> Result<IpHeader, Fault>
         return Err(Fault::SmallIhl { ihl });
     }
     let len = ihl * 4;
-    if have < len {
-        return Err(too_short(Kind::Ipv4, len, have));
-    }
+    fits(Kind::Ipv4, len, have)?;
     let total = usize::from(be16(w, field::IPV4_TOTAL_LENGTH));
     if total < len {
         return Err(Fault::TooShort {

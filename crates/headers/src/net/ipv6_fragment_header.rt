@@ -3,8 +3,8 @@ ghost use Rattle.std.specs.Prelude.{◌≡◌, ℕ};
 ghost use Rattle.headers.specs.Says.{read_on_paper, ext_says};
 ghost use Rattle.rules.specs.declared.kind.Kind.TheVariants as K;
 
+use crate::fits;
 use crate::net::ExtHeader;
-use crate::too_short;
 use big_endian::{be16, byte};
 use rules::{Fault, Fragment, IpNumber, Kind, field, length};
 
@@ -14,9 +14,7 @@ pub fn read_fragment(w: &[u8]) -> Result<ExtHeader, Fault>
     ensures unwritten { w.exit.now ≡ w.entry.now }
 {
     let have = w.len();
-    if have < length::FRAGMENT {
-        return Err(too_short(Kind::Fragment, length::FRAGMENT, have));
-    }
+    fits(Kind::Fragment, length::FRAGMENT, have)?;
     let word = be16(w, field::FRAGMENT_OFFSET);
     let fragment = Fragment::by(word / 8, word % 2);
     Ok(ExtHeader {

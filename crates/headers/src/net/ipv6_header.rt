@@ -3,8 +3,8 @@ ghost use Rattle.std.specs.Prelude.{◌≡◌, ℕ};
 ghost use Rattle.headers.specs.Says.{read_on_paper, ip_says};
 ghost use Rattle.rules.specs.declared.kind.Kind.TheVariants as K;
 
+use crate::fits;
 use crate::net::IpHeader;
-use crate::too_short;
 use big_endian::{be16, byte};
 use rules::{Bound, Fault, Fragment, IpNumber, Kind, Layer, field, length};
 
@@ -14,9 +14,7 @@ pub fn read_ipv6(w: &[u8]) -> Result<IpHeader, Fault>
     ensures unwritten { w.exit.now ≡ w.entry.now }
 {
     let have = w.len();
-    if have < length::IPV6 {
-        return Err(too_short(Kind::Ipv6, length::IPV6, have));
-    }
+    fits(Kind::Ipv6, length::IPV6, have)?;
     let version = usize::from(byte(w, field::IPV6_VERSION)) / 16;
     if version != 6 {
         return Err(Fault::Ipv6Version { version });

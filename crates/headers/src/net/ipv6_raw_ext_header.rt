@@ -3,8 +3,8 @@
 ghost use Rattle.std.specs.Prelude.{◌≡◌, ℕ};
 ghost use Rattle.headers.specs.Says.{read_on_paper, raw_says};
 
+use crate::fits;
 use crate::net::ExtHeader;
-use crate::too_short;
 use big_endian::byte;
 use rules::{Fault, Fragment, IpNumber, Kind, field, length};
 
@@ -15,14 +15,10 @@ pub fn read_raw_ext(w: &[u8], kind: Kind) -> Result<ExtHeader, Fault>
     ensures unwritten { w.exit.now ≡ w.entry.now }
 {
     let have = w.len();
-    if have < length::RAW_EXT {
-        return Err(too_short(kind, length::RAW_EXT, have));
-    }
+    fits(kind, length::RAW_EXT, have)?;
     let units = usize::from(byte(w, field::EXT_LENGTH));
     let len = (units + 1) * 8;
-    if have < len {
-        return Err(too_short(kind, len, have));
-    }
+    fits(kind, len, have)?;
     Ok(ExtHeader {
         len,
         names: IpNumber(byte(w, field::EXT_NEXT_HEADER)),

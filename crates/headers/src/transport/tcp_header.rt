@@ -2,7 +2,7 @@
 ghost use Rattle.std.specs.Prelude.{◌≡◌, ℕ};
 ghost use Rattle.headers.specs.Says.{read_on_paper, tcp_says};
 
-use crate::too_short;
+use crate::fits;
 use crate::transport::TransportHeader;
 use big_endian::byte;
 use rules::{Fault, Kind, field, length};
@@ -13,16 +13,12 @@ pub fn read_tcp(w: &[u8]) -> Result<TransportHeader, Fault>
     ensures unwritten { w.exit.now ≡ w.entry.now }
 {
     let have = w.len();
-    if have < length::TCP {
-        return Err(too_short(Kind::Tcp, length::TCP, have));
-    }
+    fits(Kind::Tcp, length::TCP, have)?;
     let value = usize::from(byte(w, field::TCP_DATA_OFFSET)) / 16;
     if value < length::LEAST_WORDS {
         return Err(Fault::SmallDataOffset { value });
     }
     let len = value * 4;
-    if have < len {
-        return Err(too_short(Kind::Tcp, len, have));
-    }
+    fits(Kind::Tcp, len, have)?;
     Ok(TransportHeader { len, end: have })
 }

@@ -2,7 +2,7 @@
 ghost use Rattle.std.specs.Prelude.{◌≡◌, ℕ};
 ghost use Rattle.headers.specs.Says.{read_on_paper, udp_says};
 
-use crate::too_short;
+use crate::fits;
 use crate::transport::TransportHeader;
 use big_endian::be16;
 use rules::{Bound, Fault, Kind, Layer, field, length};
@@ -13,9 +13,7 @@ pub fn read_udp(w: &[u8]) -> Result<TransportHeader, Fault>
     ensures unwritten { w.exit.now ≡ w.entry.now }
 {
     let have = w.len();
-    if have < length::UDP {
-        return Err(too_short(Kind::Udp, length::UDP, have));
-    }
+    fits(Kind::Udp, length::UDP, have)?;
     let end = usize::from(be16(w, field::UDP_LENGTH));
     if end == 0 {
         return Ok(TransportHeader {
