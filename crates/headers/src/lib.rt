@@ -26,7 +26,7 @@ pub use transport::TransportHeader;
 pub use transport::tcp_header::read_tcp;
 pub use transport::udp_header::read_udp;
 
-// Whether so many bytes of a header of this kind are there, in its room.
+// Whether so many bytes of a header of this kind are there, in its room. A test of another layer or bound is made once, where it stands.
 fn fits(kind: Kind, required: usize, have: usize) -> Result<(), Fault>
     ensures ok { OnOk result (required ≤ have) }
     ensures err { IfErr result (λ f. (have < required) × (fault_on_paper f ≡ short (L.Of kind) required have B.Room)) }

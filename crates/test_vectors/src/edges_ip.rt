@@ -1,6 +1,4 @@
 // The tests of the IPv4 and IPv6 headers: one short, exact, one long, at both ways to each; their versions, and the bits of IPv4 fragments.
-use test_cases::Tally;
-
 const IPV4_BEHIND_ETHERNET: &[u8] = b"n IPv4 header, Ethernet
 z 12
 x 0800 45000014 00000000 403b0000
@@ -199,16 +197,11 @@ b 6 192
 b 7 1
 2 28 ipv4 0 20/payload 20 8/stop 3";
 
-pub fn run(tally: &mut Tally) {
-    let lists = [
-        IPV4_BEHIND_ETHERNET,
-        IPV4_ENTRY,
-        IPV6_BEHIND_ETHERNET,
-        IPV6_ENTRY,
-        LONGEST_PACKETS,
-        FIRST_BYTES,
-    ];
-    for list in lists {
-        test_cases::run(tally, list);
-    }
-}
+pub const LISTS: &[&[u8]] = &[
+    IPV4_BEHIND_ETHERNET,
+    IPV4_ENTRY,
+    IPV6_BEHIND_ETHERNET,
+    IPV6_ENTRY,
+    LONGEST_PACKETS,
+    FIRST_BYTES,
+];

@@ -1,6 +1,4 @@
 // The length tests of the link headers, and of IP headers behind tags: a byte short, exact, a byte long.
-use test_cases::Tally;
-
 const TAGS: &[u8] = b"n Ethernet header
 z 12
 x 0806
@@ -51,9 +49,4 @@ z 32
 1 62 ethernet2 0 14/vlan 14 4/vlan 18 4/ipv6 22 40/payload 62 0/stop 4
 1 63 ethernet2 0 14/vlan 14 4/vlan 18 4/ipv6 22 40/payload 62 1/stop 4";
 
-pub fn run(tally: &mut Tally) {
-    let lists = [TAGS, PACKETS_BEHIND_TAGS];
-    for list in lists {
-        test_cases::run(tally, list);
-    }
-}
+pub const LISTS: &[&[u8]] = &[TAGS, PACKETS_BEHIND_TAGS];

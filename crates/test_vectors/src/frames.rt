@@ -1,6 +1,4 @@
 // Document 01's frames, with the answers as it has them. Bytes that it leaves free are zero.
-use test_cases::Tally;
-
 const LINK: &[u8] = b"n F1
 z 12
 x 0806
@@ -99,9 +97,4 @@ n no bytes
 2 0 refused 1 ipv4 0 required 20 have 0 source slice
 3 0 refused 1 ipv6 0 required 40 have 0 source slice";
 
-pub fn run(tally: &mut Tally) {
-    let lists = [LINK, NETWORK, TRANSPORT, WHOLE_TEXTS];
-    for list in lists {
-        test_cases::run(tally, list);
-    }
-}
+pub const LISTS: &[&[u8]] = &[LINK, NETWORK, TRANSPORT, WHOLE_TEXTS];

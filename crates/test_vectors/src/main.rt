@@ -14,11 +14,17 @@ use test_cases::Tally;
 fn main() {
     io::write_all(1, b"vectors");
     let mut tally = Tally::new();
-    frames::run(&mut tally);
-    tired::run(&mut tally);
-    sums::run(&mut tally);
-    published::run(&mut tally);
-    edges_link::run(&mut tally);
-    edges_ip::run(&mut tally);
+    for lists in [
+        frames::LISTS,
+        tired::LISTS,
+        sums::LISTS,
+        published::LISTS,
+        edges_link::LISTS,
+        edges_ip::LISTS,
+    ] {
+        for list in lists {
+            test_cases::run(&mut tally, list);
+        }
+    }
     tally.report();
 }

@@ -1,6 +1,4 @@
 // Published headers: of RFC 791, and of the worked examples of the header checksum in sums.rt.
-use test_cases::Tally;
-
 // RFC 791, appendix A: a datagram with 1 byte of data, one with 452, its two fragments, and one with 12 bytes of options. The appendix
 // leaves the data open; where the protocol is 6, a TCP header of 20 bytes stands there.
 const RFC_791: &[u8] = b"n RFC 791, example 1
@@ -38,9 +36,4 @@ n Forouzan, the packet
 x 4500 001c 0001 0000 0411 8bb1 0a0c 0e05 0c06 0709 00350035 00080000
 2 28 ipv4 0 20/udp 20 8/payload 28 0/stop 5";
 
-pub fn run(tally: &mut Tally) {
-    let lists = [RFC_791, WORKED_EXAMPLES];
-    for list in lists {
-        test_cases::run(tally, list);
-    }
-}
+pub const LISTS: &[&[u8]] = &[RFC_791, WORKED_EXAMPLES];

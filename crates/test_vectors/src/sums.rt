@@ -1,6 +1,4 @@
 // Checksums: document 01's and published ones. A case has the answer and its no-zero form.
-use test_cases::Tally;
-
 // Document 01, F10. RFC 1071, section 3: the sum ddf2, the swapped order f2dd, and the two groups f201 and f0eb, of which the second
 // begins at an odd byte; the answers are the complements.
 const RFC_1071: &[u8] = b"n F10
@@ -95,9 +93,4 @@ x 04
 +
 s f7fd f7fd";
 
-pub fn run(tally: &mut Tally) {
-    let lists = [RFC_1071, RFC_1624, HEADERS, CARRIES];
-    for list in lists {
-        test_cases::run(tally, list);
-    }
-}
+pub const LISTS: &[&[u8]] = &[RFC_1071, RFC_1624, HEADERS, CARRIES];

@@ -1,6 +1,4 @@
 // Document 01's "Errors a tired hand makes": an input for each, whose answer the error changes.
-use test_cases::Tally;
-
 const HEADERS: &[u8] = b"n padding taken as samples
 z 12
 x 0800 45000020 00000000 40110000
@@ -58,9 +56,4 @@ x 0102
 +
 s fefd fefd";
 
-pub fn run(tally: &mut Tally) {
-    let lists = [HEADERS, EXTENSIONS, SUMS];
-    for list in lists {
-        test_cases::run(tally, list);
-    }
-}
+pub const LISTS: &[&[u8]] = &[HEADERS, EXTENSIONS, SUMS];

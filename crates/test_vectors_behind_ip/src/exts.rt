@@ -1,6 +1,4 @@
 // The tests of the extension headers: one short, exact, one long, in rooms that a length field ends and in rooms that the slice ends.
-use test_cases::Tally;
-
 const HOP_BY_HOP: &[u8] = b"n hop-by-hop, room by payload length
 z 12
 x 86dd 60000000 00080040
@@ -280,17 +278,12 @@ z 10
 2 44 ipv4 0 20/auth 20 12/payload 32 12/stop 4
 2 45 ipv4 0 20/auth 20 12/payload 32 12/stop 4";
 
-pub fn run(tally: &mut Tally) {
-    let lists = [
-        HOP_BY_HOP,
-        ROUTING,
-        DESTINATION,
-        CHAINS,
-        FRAGMENT,
-        AUTH,
-        AUTH_IN_IPV4,
-    ];
-    for list in lists {
-        test_cases::run(tally, list);
-    }
-}
+pub const LISTS: &[&[u8]] = &[
+    HOP_BY_HOP,
+    ROUTING,
+    DESTINATION,
+    CHAINS,
+    FRAGMENT,
+    AUTH,
+    AUTH_IN_IPV4,
+];

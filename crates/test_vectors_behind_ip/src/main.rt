@@ -10,7 +10,10 @@ use test_cases::Tally;
 fn main() {
     io::write_all(1, b"vectors behind IP");
     let mut tally = Tally::new();
-    exts::run(&mut tally);
-    transport::run(&mut tally);
+    for lists in [exts::LISTS, transport::LISTS] {
+        for list in lists {
+            test_cases::run(&mut tally, list);
+        }
+    }
     tally.report();
 }

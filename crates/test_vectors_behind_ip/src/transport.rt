@@ -1,6 +1,4 @@
 // The tests of the UDP and TCP headers: one short, exact, one long, in every kind of room and at every entry.
-use test_cases::Tally;
-
 // A UDP length of 8, and then of 12.
 const UDP_IN_IPV4: &[u8] = b"n UDP, room by IPv4 total length, Ethernet
 z 12
@@ -282,18 +280,13 @@ x 00500050 00000000 00000000 50020000 00000000
 3 68 ipv6 0 40/destination 40 8/tcp 48 20/payload 68 0/stop 5
 3 69 ipv6 0 40/destination 40 8/tcp 48 20/payload 68 1/stop 5";
 
-pub fn run(tally: &mut Tally) {
-    let lists = [
-        UDP_IN_IPV4,
-        UDP_IN_IPV6,
-        UDP_TO_THE_END,
-        UDP_LENGTHS,
-        TCP_IN_IPV4,
-        TCP_IN_IPV6,
-        TCP_TO_THE_END,
-        TCP_OFFSETS,
-    ];
-    for list in lists {
-        test_cases::run(tally, list);
-    }
-}
+pub const LISTS: &[&[u8]] = &[
+    UDP_IN_IPV4,
+    UDP_IN_IPV6,
+    UDP_TO_THE_END,
+    UDP_LENGTHS,
+    TCP_IN_IPV4,
+    TCP_IN_IPV6,
+    TCP_TO_THE_END,
+    TCP_OFFSETS,
+];
