@@ -57,28 +57,15 @@ pub enum ExtTurn {
 pub fn ext_turn(number: IpNumber, place: ChainPlace) -> ExtTurn
     ensures { result ≡ ext_turn place number.0 }
 {
-    let n = number.0;
-    if n == ip_number::IPV6_HOP_BY_HOP {
-        match place {
-            ChainPlace::Directly => {
-                return ExtTurn::Opens(ExtKind::HopByHop);
-            }
-            ChainPlace::Later => {
-                return ExtTurn::LateHopByHop;
-            }
-        }
+    match number.0 {
+        ip_number::IPV6_HOP_BY_HOP => match place {
+            ChainPlace::Directly => ExtTurn::Opens(ExtKind::HopByHop),
+            ChainPlace::Later => ExtTurn::LateHopByHop,
+        },
+        ip_number::IPV6_ROUTE => ExtTurn::Opens(ExtKind::Routing),
+        ip_number::IPV6_DEST_OPTIONS => ExtTurn::Opens(ExtKind::Destination),
+        ip_number::IPV6_FRAG => ExtTurn::Opens(ExtKind::Fragment),
+        ip_number::AUTH => ExtTurn::Opens(ExtKind::Auth),
+        _ => ExtTurn::Ends,
     }
-    if n == ip_number::IPV6_ROUTE {
-        return ExtTurn::Opens(ExtKind::Routing);
-    }
-    if n == ip_number::IPV6_DEST_OPTIONS {
-        return ExtTurn::Opens(ExtKind::Destination);
-    }
-    if n == ip_number::IPV6_FRAG {
-        return ExtTurn::Opens(ExtKind::Fragment);
-    }
-    if n == ip_number::AUTH {
-        return ExtTurn::Opens(ExtKind::Auth);
-    }
-    ExtTurn::Ends
 }

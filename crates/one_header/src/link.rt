@@ -52,20 +52,17 @@ impl From<LinkTurn> for Turn {
     }
 }
 
-// An `if` for each number here and in the turns, in the order of the rule, each with a place of its own in the table of numbers (`bin/decisions`).
 // `VLAN-3`
 #[tactic(auto, unfolding(rules::specs::Rules::is_tag))]
 fn is_tag(number: EtherType) -> bool
     ensures { result ≡ is_tag number.0 }
 {
-    let n = number.0;
-    if n == ether_type::VLAN_TAGGED_FRAME {
-        return true;
-    }
-    if n == ether_type::PROVIDER_BRIDGING {
-        return true;
-    }
-    n == ether_type::VLAN_DOUBLE_TAGGED_FRAME
+    matches!(
+        number.0,
+        ether_type::VLAN_TAGGED_FRAME
+            | ether_type::PROVIDER_BRIDGING
+            | ether_type::VLAN_DOUBLE_TAGGED_FRAME
+    )
 }
 
 // Where an EtherType leads, with so many tags held.
@@ -74,18 +71,15 @@ fn is_tag(number: EtherType) -> bool
 pub fn link_turn(number: EtherType, tags: usize) -> LinkTurn
     ensures { (p : R) → p.tags ≡ tags → link_turn_on_paper result ≡ link p number.0 }
 {
-    let n = number.0;
     if is_tag(number) {
         if tags < TAG_LIMIT {
             return LinkTurn::Tag;
         }
         return LinkTurn::Ends(Onward::Stops(Stop::TagsFull));
     }
-    if n == ether_type::IPV4 {
-        return LinkTurn::Ends(Onward::Opens(IpKind::Ipv4));
+    match number.0 {
+        ether_type::IPV4 => LinkTurn::Ends(Onward::Opens(IpKind::Ipv4)),
+        ether_type::IPV6 => LinkTurn::Ends(Onward::Opens(IpKind::Ipv6)),
+        _ => LinkTurn::Ends(Onward::Stops(Stop::EtherTypeNotOpened)),
     }
-    if n == ether_type::IPV6 {
-        return LinkTurn::Ends(Onward::Opens(IpKind::Ipv6));
-    }
-    LinkTurn::Ends(Onward::Stops(Stop::EtherTypeNotOpened))
 }

@@ -58,15 +58,12 @@ pub fn stop_behind() -> Stop
 pub fn transport_turn(number: IpNumber, mark: bool) -> Onward<TransportKind>
     ensures { (p : R) → p.mark ≡ mark → transport_turn_on_paper result ≡ transport p number.0 }
 {
-    let n = number.0;
     if mark {
         return Onward::Stops(Stop::Fragment);
     }
-    if n == ip_number::UDP {
-        return Onward::Opens(TransportKind::Udp);
+    match number.0 {
+        ip_number::UDP => Onward::Opens(TransportKind::Udp),
+        ip_number::TCP => Onward::Opens(TransportKind::Tcp),
+        _ => Onward::Stops(Stop::IpNumberNotOpened),
     }
-    if n == ip_number::TCP {
-        return Onward::Opens(TransportKind::Tcp);
-    }
-    Onward::Stops(Stop::IpNumberNotOpened)
 }
