@@ -36,7 +36,7 @@ use Rattle.steps.specs.declared.place.Step.TheVariants as N
 use Rattle.steps.specs.declared.place.NoStep.{NoStep}
 use Rattle.steps.specs.declared.place.NoStep.TheVariants as NS
 use Rattle.slicer.specs.declared.packet.SlicedPacket.{SlicedPacket}
-use Rattle.slicer.specs.Reply.{Reply, Ended, accepted, refused, packet_on_paper}
+use Rattle.slicer.specs.Reply.{Reply, Ended, accepted, refused, outcome_on_paper, packet_on_paper}
 use Rattle.steps.specs.Lists.{header_on_paper, count_on_paper}
 use Rattle.steps.specs.Places.{Stepped, step_on_paper, place_back}
 use Rattle.steps.specs.Places as P
@@ -148,6 +148,15 @@ ending_back =
       back = λ x. record { payload = record { at = x.at; len = x.len }; number = x.number; stop = stop_back.back x.why };
       same = λ e i. record { payload = e.payload; number = e.number; stop = stop_back.same e.stop i };
     }
+
+-- how a frame ends
+outcome_of : Ended → Result Ending Refusal
+outcome_of (accepted x) = Ok (ending_back.back x)
+outcome_of (refused r) = Err (refusal_of r)
+
+pub outcome_back : Back outcome_on_paper
+unfolding outcome_of
+outcome_back = record { back = outcome_of; same = elim [ Ok e ↦ ap Ok (ending_back.same e) | Err q ↦ ap Err (refusal_same q) ] }
 
 -- the unused slots of the tags included
 packet_of : Reply → Result SlicedPacket Refusal

@@ -1,9 +1,11 @@
 -- How a slice is added up: a block by its pairs of bytes and the byte that may be left, the slice by its blocks. Assumes nothing.
 use mathlib.Core.Path.{◌≡◌, refl, sym, ap, ◌∙◌}
 use mathlib.Core.List.{List, [], ◌∷◌, ◌++◌}
-use Prim.Native.Nat.{ℕ, zero, suc, ◌+◌, ◌*◌, ◌%◌, ◌≤◌, ◌<◌, min}
+use Prim.Native.Nat.{ℕ, zero, suc, ◌+◌, ◌*◌, ◌-◌, ◌%◌, ◌≤◌, ◌<◌, min}
 use native.Mathlib.Omega.{arith}
-use lib.ListN.{length, get_or, drop}
+use native.Mathlib.Numerals.{add-one}
+use lib.ListN.{length, get_or, take, drop, drop_of_length-le, length-drop}
+use lib.Seq.{drop-cons, drop-drop, take_all}
 use mir.Syntax.{w8, w16}
 use mir.Val.{Fits}
 use denote.Ref.{Bor}
@@ -19,7 +21,63 @@ use Rattle.std.specs.declared.slice.Chunks.{Chunks}
 use Rattle.std.proofs.lemmas.List.{append-nil, length-append}
 use Rattle.std.proofs.lemmas.List.Sums.{sum_by-cons}
 use Rattle.checksum.specs.Sum.{base, ones, word, total, fold, add_slice}
-use Rattle.checksum.specs.Laws.{fold-fold, fold_exchanged, fold_le, fold_small, total-append}
+use Rattle.checksum.specs.Laws.{fold-fold, fold_exchanged, fold_le, fold_small, total-append, total_block}
+
+-- ---- one step of the sum, from a place of the slice on: two bytes, the last one, none, and a block
+
+-- two bytes or more are left
+total-two : (s : List ℕ) (i : ℕ) → i + 1 < length s → total (drop i s) ≡ word (get_or s i 0) (get_or s (i + 1) 0) + total (drop (i + 2) s)
+unfolding total
+total-two s i h =
+    let h₀ : i < length s = omega arith in
+    let h₁ : suc i < length s = omega arith in
+    let e : i + 2 ≡ suc (suc i) = omega arith in
+    rw (drop-cons s i 0, drop-cons s (suc i) 0, add-one, e)
+
+-- one byte is left
+total_one : (s : List ℕ) (i : ℕ) → i + 1 ≡ length s → total (drop i s) ≡ word (get_or s i 0) 0
+unfolding total
+total_one s i h =
+    let h₀ : i < length s = omega arith in
+    rw (drop-cons s i 0, drop_of_length-le s {i = suc i} (omega arith))
+
+-- nothing is left
+total-none : (s : List ℕ) (i : ℕ) → length s ≤ i → total (drop i s) ≡ 0
+unfolding total
+total-none s i h = rw (drop_of_length-le s h)
+
+-- the state n, the block's sum so far with the low byte first, and the words that are left, folded together
+abbrev pub along : List ℕ → ℕ → ℕ → ℕ → ℕ
+along s n sum i = fold (n + sum * base + total (drop i s))
+
+-- two bytes are added to the sum, the first as the low one
+pub along-two : (s : List ℕ) (n sum i : ℕ) → i + 1 < length s
+    → along s n (sum + word (get_or s (i + 1) 0) (get_or s i 0)) (i + 2) ≡ along s n sum i
+along-two s n sum i h =
+    let t = total-two s i h in
+    let r = total (drop (i + 2) s) in
+    ap fold (omega arith) ∙ fold_exchanged (n + sum * base + r) (get_or s i 0) (get_or s (i + 1) 0) ∙ ap fold (omega arith)
+
+-- the last byte is added to the sum, as a low one
+pub along_one : (s : List ℕ) (n sum i : ℕ) → i + 1 ≡ length s → fold (n + (sum + word 0 (get_or s i 0)) * base) ≡ along s n sum i
+along_one s n sum i h = let t = total_one s i h in ap fold (omega arith)
+
+-- nothing is left to add
+pub along-none : (s : List ℕ) (n sum i : ℕ) → length s ≤ i → fold (n + sum * base) ≡ along s n sum i
+along-none s n sum i h = let t = total-none s i h in ap fold (omega arith)
+
+-- a block of even length is added, then what follows it
+pub block_on : (s : List ℕ) (sum n i : ℕ) → n % 2 ≡ 0 → i + n ≤ length s
+    → add_slice (add_slice sum (take (i + n - i) (drop i s))) (drop (i + n) s) ≡ add_slice sum (drop i s)
+block_on s sum n i e h =
+    let g : i + n - i ≡ n = omega arith in
+    let k : n ≤ length (drop i s) = simp length-drop (omega arith) in
+    let t = total_block n (drop i s) e k in
+    rw (g, ← drop-drop n i s) (fold-fold (sum + total (take n (drop i s))) (total (drop n (drop i s))) ∙ ap fold (omega arith))
+
+-- the last block is all that is left
+pub block_last : (s : List ℕ) (i : ℕ) → take (length s - i) (drop i s) ≡ drop i s
+block_last s i = take_all (length s - i) (drop i s) (simp length-drop (omega arith))
 
 -- ---- in a block
 
@@ -64,11 +122,6 @@ first_or (Some x) s n Q v m f = f x m ∙ ap (λ o. unwrap_or o 0) v ∙ unwrap_
 
 -- ---- from block to block
 
-total-none : (s : List ℕ) → length s ≡ 0 → total s ≡ 0
-unfolding total
-total-none [] h = refl
-total-none (a ∷ s) h = absurd (omega arith)
-
 -- A block of even length, or the last one, and what follows it are added word by word.
 total_on : (n : ℕ) (b r : List ℕ) → n % 2 ≡ 0 → length b ≡ min n (length (b ++ r)) → total (b ++ r) ≡ total b + total r
 unfolding total
@@ -80,7 +133,8 @@ module _ {F : Type 0} (R : F × ℕ → Bor (List ℕ) → F × ℕ → Type 0) 
   pub by_blocks : (bs : List (Bor (List ℕ))) (s : Chunks ℕ) (p q : F × ℕ) → chunks_size s % 2 ≡ 0 → p.1 ≤ ones
       → Drains chunks_steps s bs → FoldsTo R p bs q → q.1 ≡ add_slice p.1 (chunks_rest s)
   by_blocks [] s p q e h (u, (t, is, end)) f =
-      let z = total-none (chunks_rest s) (ap (λ x. length (chunks_rest x)) is ∙ end.1.0) in
+      let empty = ap (λ x. length (chunks_rest x)) is ∙ end.1.0 in
+      let z = total-none (chunks_rest s) 0 (omega arith) in
       ap (λ x. x.1) (sym f) ∙ sym (fold_small p.1 h) ∙ ap fold (omega arith)
   by_blocks (b ∷ bs) s p q e h (u, (t, (j, step, y), end)) (m, turn, f) =
       let cut = step.1.0 in

@@ -1,9 +1,10 @@
 -- A reader's answer at a place: what a whole header says, or the row of its refusal there.
-use Rattle.std.specs.Prelude.{ℕ, List, ◌≡◌, Option, Some, None, unwrap_or, Result, Ok, Err}
+use Rattle.std.specs.Prelude.{ℕ, List, ◌≡◌, refl, Option, Some, None, unwrap_or, Result, Ok, Err}
+use Rattle.std.proofs.Common.{sym, ap, ◌∙◌}
 use Rattle.rules.specs.declared.kind.RoomSource.{RoomSource}
 use Rattle.rules.specs.declared.refusal.Refusal.{Refusal}
 use Rattle.rules.specs.declared.refusal.Row.{Row}
-use Rattle.rules.specs.Test.{Verdict, whole, failed, placed}
+use Rattle.rules.specs.Test.{Failure, Verdict, whole, failed, placed}
 use Rattle.rules.specs.Paper.{refusal_on_paper}
 use Rattle.headers.specs.declared.net.IpHeader.{IpHeader}
 use Rattle.headers.specs.declared.transport.TransportHeader.{TransportHeader}
@@ -59,3 +60,46 @@ at_on_paper (Err r) = refused (refusal_on_paper r)
 pub here_whole : {A : Type 0} (v : Verdict A) (at : ℕ) (source : RoomSource) {x : A} → here x ≡ placing v at source → v ≡ whole x
 here_whole (whole y) at source e = cc
 here_whole (failed f) at source e = cc
+
+-- a refusal at a place is a failed verdict's row there
+pub refused_failed : {A : Type 0} (v : Verdict A) (at : ℕ) (source : RoomSource) {r : Row} → refused r ≡ placing v at source
+    → (f : Failure) × (v ≡ failed f) × (r ≡ placed f at source)
+refused_failed (whole y) at source e = cc
+refused_failed (failed f) at source e = (f, refl, cc)
+
+-- what is whole with f put over it was whole without
+pub over_whole : {A B : Type 0} (f : A → B) (v : Verdict A) {y : B} → over f v ≡ whole y → (x : A) × (v ≡ whole x) × (y ≡ f x)
+over_whole f (whole x) e = (x, refl, cc)
+over_whole f (failed g) e = cc
+
+-- and what failed had failed
+pub over_failed : {A B : Type 0} (f : A → B) (v : Verdict A) {g : Failure} → over f v ≡ failed g → v ≡ failed g
+over_failed f (whole x) e = cc
+over_failed f (failed h) e = cc
+
+-- ---- a reader's answer v, which is u on paper, made the answer at a place
+
+-- a verdict has one failure
+pub one_failure : {A : Type 0} {v : Verdict A} {f g : Failure} → v ≡ failed f → v ≡ failed g → f ≡ g
+one_failure p q = cc
+
+-- and is not whole besides
+pub not_failed : {A : Type 0} {v : Verdict A} {x : A} {f : Failure} → v ≡ whole x → v ≡ failed f → ⊥
+not_failed p q = cc
+
+module _ {A : Type 0} {v u : Verdict A} (at : ℕ) (source : RoomSource) (e : v ≡ u) where
+  -- a whole header
+  pub whole_at : {x : A} → v ≡ whole x → here x ≡ placing u at source
+  whole_at z = ap (λ (y : Verdict A). placing y at source) (sym z ∙ e)
+
+  -- a refusal
+  pub refused_at : {f : Failure} {r : Row} → v ≡ failed f → r ≡ placed f at source → refused r ≡ placing u at source
+  refused_at z q = ap refused q ∙ ap (λ (y : Verdict A). placing y at source) (sym z ∙ e)
+
+  module _ {B : Type 0} (f : A → B) where
+    -- the same with f put over what a whole header says
+    pub whole_over : {x : A} → v ≡ whole x → here (f x) ≡ placing (over f u) at source
+    whole_over z = ap (λ (y : Verdict A). placing (over f y) at source) (sym z ∙ e)
+
+    pub refused_over : {g : Failure} {r : Row} → v ≡ failed g → r ≡ placed g at source → refused r ≡ placing (over f u) at source
+    refused_over z q = ap refused q ∙ ap (λ (y : Verdict A). placing (over f y) at source) (sym z ∙ e)

@@ -181,10 +181,15 @@ module _ (w : List ℕ) (at : ℕ) (p : Room) where
   unfolding follow_of turn_of names_of payload_of leaves length_of declared_of fragment_of
   vlan_reads e = ap (λ o. link_header o 4 (length w) at p) e ∙ by_fields Vlan _ (λ o. link_header o 4 (length w) at p) (λ r. refl) refl
 
-  -- the room that an IP header sets: where it ends, counted from the header or from the frame's start, and what set it
-  moved : (b : Bool) (have d : ℕ) → at + unwrap_or (pick b None (Some d)) have ≡ pick b (at + have) (at + d)
+  -- where a room ends that an IP header sets, counted from the header or from the frame's start
+  moved : (b : Bool) (have d : ℕ) → at + pick b have d ≡ pick b (at + have) (at + d)
   moved true have d = refl
   moved false have d = refl
+
+  -- the same where the declared length is an Option, and what set the room
+  ended : (b : Bool) (have d : ℕ) → at + unwrap_or (pick b None (Some d)) have ≡ pick b (at + have) (at + d)
+  ended true have d = refl
+  ended false have d = refl
 
   sourced : (b : Bool) (d : ℕ) (sets source : RoomSource) → set_source (pick b None (Some d)) sets source ≡ pick b source sets
   sourced true d sets source = refl
@@ -196,7 +201,7 @@ module _ (w : List ℕ) (at : ℕ) (p : Room) where
   ipv4_reads e =
       let d = value total_length (seen Ipv4 w) in
       ap (λ o. ip_header o 4 at p) e ∙ by_part Ipv4 _ (λ x. setting x (length w) S.Ipv4 p.source) (λ o. ip_header o 4 at p) (λ r. refl)
-      (rw (moved (eqb d 0) (length w) d, sourced (eqb d 0) d S.Ipv4 p.source) refl)
+      (rw (ended (eqb d 0) (length w) d, sourced (eqb d 0) d S.Ipv4 p.source) refl)
 
   pub ipv6_reads : {o : Placed IpFound} → o ≡ placing (over (λ x. setting x (length w) S.Ipv6 p.source) (ip_says Ipv6 p.version w)) at p.source
       → ip_header o 6 at p ≡ read_part w Ipv6 at p
@@ -204,7 +209,7 @@ module _ (w : List ℕ) (at : ℕ) (p : Room) where
   ipv6_reads e =
       let d = ipv6_declared (seen Ipv6 w) in
       ap (λ o. ip_header o 6 at p) e ∙ by_part Ipv6 _ (λ x. setting x (length w) S.Ipv6 p.source) (λ o. ip_header o 6 at p) (λ r. refl)
-      (rw (moved (eqb d 0) (length w) d, sourced (eqb d 0) d S.Ipv6 p.source) refl)
+      (rw (ended (eqb d 0) (length w) d, sourced (eqb d 0) d S.Ipv6 p.source) refl)
 
   pub hop_reads : {o : Placed ExtHeader} → o ≡ placing (ext_says HopByHop p.version w) at p.source → ext_header o 6 (length w) at p ≡ read_part w HopByHop at p
   unfolding follow_of turn_of names_of payload_of leaves length_of declared_of fragment_of

@@ -67,6 +67,12 @@ module _ (r : RoomSlice) {k : IpKind} {o : Placed IpFound} (h : IpRead r k o) wh
     pub ip_in : (r.at + x.len ≤ r.at + x.end) × (r.at + x.end ≤ r.end) × (r.end ≤ length r.frame.now)
     ip_in = let y = within (record { inside = r.ordered; room = r.inside }) (ip_stood 0 0 0 false) in (y.holds, y.inside, r.inside)
 
+    -- its extensions begin behind it and end in its room, and that in the frame
+    pub ip_ends : {begin : IpNumber} {mark : Bool} {y : ExtsFound}
+        → ExtsDone r.frame.now (ip_kind_of k) begin (r.at + x.len) (r.at + x.end) x.source mark y
+        → (r.at + x.len ≤ y.at) × (y.at ≤ r.at + x.end) × (r.at + x.end ≤ length r.frame.now)
+    ip_ends w = (w.headed, w.inside, omega (arith, ip_in.1, ip_in.2))
+
     module _ {mark : Bool} (me : mark ≡ marking x.fragment false) where
       -- behind the header
       ip_on : (f : Parts) (t v i : ℕ) (m : Bool) → gather slice_way f r.frame.now (net_place (ip_kind_of k) r.at r.end t v i r.source m)

@@ -83,7 +83,7 @@ entering I.Ipv6 x = refl
 module _ {before : Reply} (x : LinkFound) (w : LinkDone before x) where
   at_turn : {e : Onward IpKind} → x.turn ≡ e
       → before ≡ on_turn x.room.frame.now (link_parts x.linked x.tags) (link_end_on_paper e) (room_behind x) x.room.at (Link x.number)
-  at_turn e = w ∙ toward x.room.frame.now (link_parts x.linked x.tags) (room_behind x) x.room.at (Link x.number) (ap link_end_on_paper e)
+  at_turn e = w.left ∙ toward x.room.frame.now (link_parts x.linked x.tags) (room_behind x) x.room.at (Link x.number) (ap link_end_on_paper e)
 
   pub to_ip : {k : IpKind} → x.turn ≡ D.Opens k → before ≡ behind_link x k
   unfolding on_turn

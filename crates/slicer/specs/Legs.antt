@@ -22,7 +22,7 @@ use Rattle.rules.specs.declared.stop.Stop.{Stop}
 use Rattle.rules.specs.declared.stop.Stop.TheVariants as Z
 use Rattle.rules.specs.declared.turn.ChainPlace.{ChainPlace}
 use Rattle.rules.specs.declared.turn.Turn.{Turn}
-use Rattle.rules.specs.Numbers.{ethernet_length, tag_length}
+use Rattle.rules.specs.Numbers.{ethernet_length, tag_length, tag_limit}
 use Rattle.rules.specs.Named.{kind_number}
 use Rattle.rules.specs.Paper.{refusal_on_paper}
 use Rattle.rules.specs.Rules.{rule, link, transport, chain6}
@@ -99,9 +99,10 @@ room_behind x = room x.room.end x.tags 0 0 x.room.source false
 abbrev pub on_link : List ℕ → ℕ → EtherType → ℕ → Reply
 on_link s tags number at = on_turn s (link_parts true tags) (link (link_room s tags) number.0) (link_room s tags) at (Link number)
 
-abbrev pub LinkDone : Reply → LinkFound → Type 0
-LinkDone before x =
-    before ≡ on_turn x.room.frame.now (link_parts x.linked x.tags) (link_end_on_paper x.turn) (room_behind x) x.room.at (Link x.number)
+-- where the link leg ends: that this is in the frame, x.room says itself
+pub record LinkDone (before : Reply) (x : LinkFound) : Type 0 where
+  pub left : before ≡ on_turn x.room.frame.now (link_parts x.linked x.tags) (link_end_on_paper x.turn) (room_behind x) x.room.at (Link x.number)
+  pub few : x.tags ≤ tag_limit
 
 abbrev pub Linking : Reply → Ends LinkFound → Type 0
 Linking before = Went (LinkDone before) (λ r. before ≡ refused_by r)
@@ -134,11 +135,15 @@ on_transport s f p number at = on_turn s f (transport p number.0) p at (Ip numbe
 abbrev pub head_of : Kind → (at len : ℕ) → Header
 head_of k at len = record { kind = kind_number k; at = at; len = len }
 
+-- where the net leg ends, in x.room: not before its header does
+pub record NetDone (r : RoomSlice) (k : Kind) (x : NetFound) : Type 0 where
+  pub left : (f : Parts) (t v i : ℕ) (m : Bool) → gather slice_way f r.frame.now (net_place k r.at r.end t v i r.source m)
+      ≡ on_transport x.room.frame.now (with_net f x.ip) (net_room k x.room.end t i x.room.source x.ip.fragmented) x.number x.room.at
+  pub headed : x.ip.header.at + x.ip.header.len ≤ x.room.at
+
 abbrev pub Netted : RoomSlice → Kind → Ends NetFound → Type 0
 Netted r k =
-    Went
-    (λ x. (f : Parts) (t v i : ℕ) (m : Bool) → gather slice_way f r.frame.now (net_place k r.at r.end t v i r.source m)
-    ≡ on_transport x.room.frame.now (with_net f x.ip) (net_room k x.room.end t i x.room.source x.ip.fragmented) x.number x.room.at)
+    Went (NetDone r k)
     (λ q. (f : Parts) (t v i : ℕ) (m : Bool) → gather slice_way f r.frame.now (net_place k r.at r.end t v i r.source m) ≡ refused_by q)
 
 -- ---- the extensions of an IP header h of kind k, from the offset `from` on

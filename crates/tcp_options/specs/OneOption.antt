@@ -73,6 +73,23 @@ module _ (s : List ℕ) (at : ℕ) (inside : at < length s) (not0 : byte_at s at
 
 -- ---- a listed option has a byte at least, and lies inside
 
+-- the end is no listed option
+ends_not_lists : {kind : Kind} {size : ℕ} → ends ≡ lists kind size → ⊥
+ends_not_lists e = cc
+
+-- nor are no bytes
+nothing_not_lists : {kind : Kind} {size : ℕ} → read [] ≡ lists kind size → ⊥
+unfolding read
+nothing_not_lists e = ends_not_lists e
+
+-- nor is a refusal
+refuses_not_lists : {n : ℕ} {kind : Kind} {size : ℕ} → refuses n ≡ lists kind size → ⊥
+refuses_not_lists e = cc
+
+-- a listed option has one size
+lists_size : {a b : Kind} {m n : ℕ} → lists a m ≡ lists b n → m ≡ n
+lists_size e = cc
+
 pub sound_is : (len have : ℕ) → sound len have ≡ true → (2 ≤ len) × (len ≤ have)
 unfolding sound
 sound_is len have e = go (ltb len 2) refl e

@@ -47,6 +47,10 @@ only_chain s os e c = go c
 
 -- ---- what holds of every chain
 
+-- an answer holds one option
+is_is : {o p : Listed} → is o ≡ is p → o ≡ p
+is_is e = cc
+
 pub not_is : (e : Ending) {o : Listed} → ending_answer e ≡ is o → ⊥
 not_is (ended at) e = cc
 not_is (refused r) e = cc

@@ -43,6 +43,14 @@ module _ (w : Options) where
       go true p = leb-true (length w.list) k p
       go false p = let z = listed_before k (leb-false (length w.list) k p) in absurd (other z.0 (sym e ∙ z.1))
 
+-- a refusal is no option
+refusal_other : (r : OptionRow) (o : Listed) → refusal r ≡ is o → ⊥
+refusal_other r o e = cc
+
+-- nor is "no more"
+no_more_other : (o : Listed) → no-more ≡ is o → ⊥
+no_more_other o e = cc
+
 module _ (s : List ℕ) where
   -- "at its place and every later one the answer is the refusal"
   pub refused_later : (k : ℕ) (r : OptionRow) → option_of (options s) k ≡ refusal r → (m : ℕ) → k ≤ m → option_of (options s) m ≡ refusal r
@@ -72,6 +80,14 @@ module _ (s : List ℕ) where
       go false p = let z = leb-false (length (options s).list) k p in listed_before (options s) j (omega arith)
 
 -- ---- what the ending says of the bytes
+
+-- a refusal is not the end
+not_refuses : (n : ℕ) → refuses n ≡ ends → ⊥
+not_refuses n e = cc
+
+-- nor is a listed option
+not_lists : (kind : Kind) (size : ℕ) → lists kind size ≡ ends → ⊥
+not_lists kind size e = cc
 
 long_not_ends : (kind : Kind) (rest : List ℕ) → read_long kind rest ≡ ends → ⊥
 unfolding read_long read_sized

@@ -8,7 +8,7 @@ use Rattle.slicer.proofs.link.slice_ether_type.Goals as goal
 
 pub returns : goal.returns
 returns c =
-    went (tags_done c.loop-turn.invariant _ c.link_turn.ensures c.in-Ends.is)
+    went (record { left = tags_done c.loop-turn.invariant _ c.link_turn.ensures c.in-Ends.is; few = c.loop-turn.invariant.few })
 
 pub returns-in_err-next-in-Tag : goal.returns-in_err-next-in-Tag
 returns-in_err-next-in-Tag c =

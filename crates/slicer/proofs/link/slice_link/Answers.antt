@@ -3,6 +3,9 @@ use Rattle.slicer.proofs.Answers.{handed_on}
 use Rattle.slicer.proofs.Links.{frame_short, frame_long, frame_tags, begins4, begins6}
 use Rattle.slicer.specs.Legs.{went}
 use mathlib.Core.Path.{refl}
+use Prim.Native.Nat.{◌≤◌}
+use Rattle.rules.specs.Numbers.{tag_limit}
+use native.Mathlib.Omega.{arith}
 use Rattle.slicer.proofs.link.slice_link.Goals as goal
 
 pub slice_ether_type-requires : goal.slice_ether_type-requires
@@ -19,8 +22,10 @@ returns-in_ok-first-in-Ethernet c =
 
 pub returns-in-Ipv4 : goal.returns-in-Ipv4
 returns-in-Ipv4 c =
-    rw c.in-Ipv4.is (went (begins4 _))
+    let few : 0 ≤ tag_limit = omega arith in
+    rw c.in-Ipv4.is (went (record { left = begins4 _; few = few }))
 
 pub returns-in-Ipv6 : goal.returns-in-Ipv6
 returns-in-Ipv6 c =
-    rw c.in-Ipv6.is (went (begins6 _))
+    let few : 0 ≤ tag_limit = omega arith in
+    rw c.in-Ipv6.is (went (record { left = begins6 _; few = few }))

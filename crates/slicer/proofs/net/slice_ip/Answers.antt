@@ -1,5 +1,5 @@
 -- `net::slice_ip` meets its contract. Assumes nothing.
-use Rattle.slicer.proofs.Nets.{ip_answer, ip_short, ip_in, ip_done, ip_stuck}
+use Rattle.slicer.proofs.Nets.{ip_answer, ip_short, ip_in, ip_ends, ip_done, ip_stuck}
 use Rattle.slicer.proofs.Answers.{there, turned, handed_on}
 use Rattle.slicer.specs.Legs.{went}
 use Rattle.rules.specs.Named.{kind_number}
@@ -18,8 +18,11 @@ returns-in_err-exts c =
 
 pub returns : goal.returns
 returns c =
-    went (ip_done c.args.room (ip_answer c.args.room _ c.in_ok-x.ensures.answer) refl c.marks.ensures
-    (c.number.ensures ∙ ap kind_number c.from.ensures) (there c.in_ok-exts.ensures))
+    let exts = there c.in_ok-exts.ensures in
+    went (record {
+      left = ip_done c.args.room (ip_answer c.args.room _ c.in_ok-x.ensures.answer) refl c.marks.ensures (c.number.ensures ∙ ap kind_number c.from.ensures) exts;
+      headed = (ip_ends c.args.room (ip_answer c.args.room _ c.in_ok-x.ensures.answer) refl exts).0;
+    })
 
 pub overflow_add-inner : goal.overflow_add-inner
 overflow_add-inner c =
