@@ -24,17 +24,18 @@ use rules::{
 };
 
 // What a whole header says: its length, the room that it leaves, the number that it names, where that leads, and where the payload
-// ends if that is nowhere. Both ends are counted from the header. Flat, since whatever is nested is copied at each step.
+// ends if that is nowhere. Both ends are counted from the header. Flat, since whatever is nested is copied at each step. Between two small fields
+// stands a large one: small fields of one word are put together and taken apart at each step, and the count takes 56 instructions an extension for 42.
 #[derive(Clone, Copy)]
 pub struct HeaderFound {
     pub len: usize,
-    pub end: usize,
-    pub to: usize,
-    pub version: usize,
-    pub number: Number,
     pub turn: Turn,
+    pub end: usize,
     pub source: RoomSource,
+    pub version: usize,
     pub mark: bool,
+    pub to: usize,
+    pub number: Number,
 }
 
 fn link_header(
