@@ -28,7 +28,6 @@ fn outcome_of(reply: Result<SlicedPacket, Refusal>) -> Result<Ending, Refusal>
 }
 
 // How the walk of a frame ends: accepted exactly when there is a chain; refused exactly where the walk breaks.
-#[tactic(auto, using(crate::specs::Accepted::accepted_iff_chain))]
 pub fn outcome(s: &[u8], entry: Entry) -> Result<Ending, Refusal>
     ensures accepted { AcceptedIffChain entry s.now result }
     ensures refused { RefusedForAReason entry s.now (λ (q : Refusal). result ≡ Err q) }
@@ -39,7 +38,6 @@ pub fn outcome(s: &[u8], entry: Entry) -> Result<Ending, Refusal>
 }
 
 // Every header of the chain, once, in order, and then no more.
-#[tactic(auto, using(crate::specs::Headers::headers_in_order))]
 pub fn header(s: &[u8], entry: Entry, k: usize) -> Result<Option<Header>, Refusal>
     ensures listed { HeadersInOrder entry s.now k result }
     ensures refused { RefusedForAReason entry s.now (λ (q : Refusal). result ≡ Err q) }
@@ -49,7 +47,6 @@ pub fn header(s: &[u8], entry: Entry, k: usize) -> Result<Option<Header>, Refusa
 }
 
 // The chain's length.
-#[tactic(auto, using(crate::specs::Headers::count_is_length))]
 pub fn count(s: &[u8], entry: Entry) -> Result<usize, Refusal>
     ensures counted { CountIsLength entry s.now result }
     ensures refused { RefusedForAReason entry s.now (λ (q : Refusal). result ≡ Err q) }

@@ -14,7 +14,7 @@ use Rattle.std.proofs.Common.{Option, None, Some}
 use Rattle.std.proofs.lemmas.Option.{unwrap_or-slice_get}
 use Rattle.std.specs.Int.{from_le_bytes}
 use Rattle.std.specs.List.{sum_by, FoldsTo, slice_get}
-use Rattle.std.specs.Iterator.{Drains}
+use Rattle.std.specs.Iterator.{Drains, Yields, CallableAtEachTurn}
 use Rattle.std.specs.Simd.{first_chunks}
 use Rattle.std.specs.Slice.Iter.{chunks_rest, chunks_size, chunks_steps}
 use Rattle.std.specs.declared.slice.Chunks.{Chunks}
@@ -141,3 +141,12 @@ module _ {F : Type 0} (R : F × ℕ → Bor (List ℕ) → F × ℕ → Type 0) 
       let parts = ap total cut ∙ total_on (chunks_size s) b.now (chunks_rest j) e (step.1.1 ∙ ap (λ r. min (chunks_size s) (length r)) cut) in
       let more = by_blocks bs j m q (omega arith) (omega (arith, fold_le (p.1 + total b.now), adds p b m turn)) (u, (t, y, end)) f in
       rw (adds p b m turn) at more ∙ fold-fold (p.1 + total b.now) (total (chunks_rest j)) ∙ ap fold (omega arith)
+
+-- No chunk of a slice is longer than their size, so that what takes lists of that length takes each of them.
+size_stays : (bs : List (Bor (List ℕ))) (s t : Chunks ℕ) → Yields chunks_steps s bs t → chunks_size t ≡ chunks_size s
+size_stays [] s t y = sym (ap chunks_size y)
+size_stays (b ∷ bs) s t (j, step, y) = size_stays bs j t y ∙ step.0
+
+pub each_taken : {P : Type 0} {R : P → Bor (List ℕ) → P → Type 0} {Q : P → Bor (List ℕ) → Type 0} {p : P} (s : Chunks ℕ)
+    → ((q : P) (b : Bor (List ℕ)) → length b.now ≤ chunks_size s → Q q b) → CallableAtEachTurn chunks_steps R Q s p
+each_taken s h = record { at = λ bs t q b u y f step. h q b (omega (arith, step.1.1, size_stays bs s t y)) }

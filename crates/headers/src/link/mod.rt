@@ -15,10 +15,10 @@ pub mod ethernet2_header;
 pub mod single_vlan_header;
 
 // The EtherType at a place of a header of this kind, which has so many bytes.
-fn read_ether_type(w: &[u8], kind: Kind, len: usize, at: usize) -> Result<EtherType, Fault>
-    ensures { read_on_paper result ≡ judge (fits (L.Of kind) len (length w.now) B.Room ∷ []) (ether_type_of (number 2 (byte_at w.now) at)) }
+fn read_ether_type(w: &[u8], kind: Kind, required: usize, at: usize) -> Result<EtherType, Fault>
+    ensures { read_on_paper result ≡ judge (fits (L.Of kind) required (length w.now) B.Room ∷ []) (ether_type_of (number 2 (byte_at w.now) at)) }
 {
     let have = w.len();
-    fits(kind, len, have)?;
+    fits(kind, required, have)?;
     Ok(EtherType(be16(w, at)))
 }

@@ -1,7 +1,12 @@
 -- `entries::from_ipv4` meets its contract: the theorem of specs, at the answer that is promised. Assumes nothing.
-use Rattle.chain.specs.Refused.{reply_refused_for_a_reason}
+use Rattle.std.specs.Prelude.{◌≡◌, Err}
+use Rattle.std.proofs.Common.{sym, subst}
+use Rattle.rules.specs.declared.entry.Entry.TheVariants as E
+use Rattle.rules.specs.declared.refusal.Refusal.{Refusal}
+use Rattle.chain.specs.Refused.{RefusedForAReason, reply_refused_for_a_reason}
 use Rattle.chain.proofs.entries.from_ipv4.Goals as goal
 
 pub returns-clause-refused : goal.returns-clause-refused
 returns-clause-refused c =
-    rw c.outcome_of.ensures (reply_refused_for_a_reason _ _ c.from_ipv4-reply.result c.from_ipv4-reply.ensures.reply)
+    let refused = reply_refused_for_a_reason _ _ c.from_ipv4-reply.result c.from_ipv4-reply.ensures.reply in
+    subst (λ o. RefusedForAReason E.Ipv4 c.args.s.now (λ (q : Refusal). o ≡ Err q)) (sym c.outcome_of.ensures) refused
