@@ -82,7 +82,7 @@ some_is : (r : Option ℕ) → is_some r ≡ true → r ≡ Some (unwrap_or r 0)
 some_is (Some k) e = refl
 some_is None e = clash (cc)
 
-none_is : (r : Option ℕ) → is_some r ≡ false → r ≡ None
+pub none_is : (r : Option ℕ) → is_some r ≡ false → r ≡ None
 none_is (Some k) e = clash (cc)
 none_is None e = refl
 
@@ -101,6 +101,10 @@ module _ (t : List ℕ) (n : ℕ) {p q : Printer} (z : p.out.now ≡ zeros n) (i
 
   pub printed_answer : q.len ≡ printed_by t n
   printed_answer = rw long at whole.told
+
+  -- where it tells none, None is the answer
+  pub printed_none : {r : Option ℕ} → is_some q.len ≡ false → r ≡ None → r ≡ printed_by t n
+  printed_none j e = e ∙ sym (none_is q.len j) ∙ printed_answer
 
   -- where the printer tells a length, what its buffer holds
   pub printed_text : {o : List ℕ} → is_some q.len ≡ true → o ≡ q.out.now → o ≡ printed_in t n
