@@ -1,4 +1,5 @@
 -- What the proofs of several functions share.
+pub mod Digits
 pub mod Pieces
 pub mod Valid
 pub mod Telling

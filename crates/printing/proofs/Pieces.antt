@@ -1,10 +1,13 @@
 -- Pieces of a text, one behind the other. Assumes nothing.
-use Prim.Native.Nat.{ℕ, suc, ◌+◌, ◌-◌, ◌≤◌, ◌<◌}
-use mathlib.Core.Path.{◌≡◌, refl, ap, ◌∙◌}
-use mathlib.Core.List.{List, [], ◌∷◌, ◌++◌, append_assoc, append-nil}
+use Prim.Native.Nat.{ℕ, ◌+◌, ◌-◌, ◌≤◌, ◌<◌}
+use mathlib.Core.Path.{◌≡◌, refl, sym, ap, ◌∙◌}
+use mathlib.Core.List.{List, [], ◌++◌, append_assoc, append-nil}
 use native.Mathlib.Omega.{arith}
-use lib.ListN.{length, set, length-append, length-set, length-replicate}
+use lib.ListN.{length, length-append, length-replicate}
+use lib.Seq.{take-append_seam, drop-append_seam}
+use borrow.Rule.Slice.PartMut.{put_mid, mid_len, same_len_mid}
 use borrow.Author.Tests.{le-leb, lt-leb}
+use Rattle.std.proofs.lemmas.List.{drop-replicate}
 use Rattle.std.specs.Prelude.{true, false, Option, Some, None}
 use Rattle.std.specs.Option.{is_some, unwrap_or}
 use Rattle.printing.specs.Clash.{clash}
@@ -13,12 +16,12 @@ use Rattle.printing.specs.declared.write.Printer.{Printer}
 use Rattle.printing.specs.Put.{printed_in, printed_by, Holds, Wrote}
 use Rattle.printing.specs.Told.{told_whole, told-cut}
 
--- ---- one byte
+-- ---- one piece
 
--- the first zero behind w made a byte
-set_behind : (w : List ℕ) (b k : ℕ) → set (w ++ zeros (suc k)) (length w) b ≡ (w ++ (b ∷ [])) ++ zeros k
-set_behind [] b k = refl
-set_behind (x ∷ w) b k = ap (λ (l : List ℕ). x ∷ l) (set_behind w b k)
+-- the first zeros behind w made the piece t
+put_behind : (w t : List ℕ) (j k : ℕ) {a : ℕ} → a ≡ length w → put_mid a j (w ++ zeros k) t ≡ (w ++ t) ++ zeros (k - j)
+put_behind w t j k e =
+    rw (e, take-append_seam w (zeros k), drop-append_seam w (zeros k), drop-replicate {X = ℕ} j k 0) (sym (append_assoc w t (zeros (k - j))))
 
 module _ {w : List ℕ} {p : Printer} (h : Holds w p) where
   -- the text fits where the printer has its length
@@ -34,36 +37,35 @@ module _ {t : List ℕ} {q : Printer} where
   unfolding printed_by
   holds_none f l = record { told = rw (lt-leb (length t) (length q.out.now) f) l; there = λ z. absurd (omega arith) }
 
-module _ {p q : Printer} {b : ℕ} (s : q.out.ghost_name ≡ p.out.ghost_name) where
+module _ {p q : Printer} {t : List ℕ} (s : q.out.ghost_name ≡ p.out.ghost_name) where
   -- it fits
-  pub pushed : {a : ℕ} → p.len ≡ Some a → a < length p.out.now → q.out.now ≡ set p.out.now a b → q.len ≡ Some (a + 1) → Wrote (b ∷ []) p q
-  pushed {a} i f e l = record { same = s; long = long; holds = holds }
+  pub stored : {a : ℕ} → p.len ≡ Some a → a + length t ≤ length p.out.now → q.out.now ≡ put_mid a (a + length t - a) p.out.now t → q.len ≡ Some (a + length t) → Wrote t p q
+  stored {a} i f e l = record { same = s; long = long; holds = holds }
     where
       long : length q.out.now ≡ length p.out.now
-      long = ap length e ∙ length-set p.out.now a b
+      long = ap length e ∙ same_len_mid a (a + length t - a) p.out.now t (omega (arith, mid_len a (a + length t) p.out.now f))
 
-      holds : (w : List ℕ) → Holds w p → Holds (w ++ (b ∷ [])) q
+      holds : (w : List ℕ) → Holds w p → Holds (w ++ t) q
       holds w h =
           let z = fitting h i in
-          let k = length p.out.now - suc (length w) in
-          let n = length-append w (b ∷ []) in
-          let behind : length p.out.now - length w ≡ suc k = omega (arith, z.0) in
-          let here : p.out.now ≡ w ++ zeros (suc k) = rw behind at (h.there z.1) in
-          let rest : k ≡ length q.out.now - length (w ++ (b ∷ [])) = omega (arith, long, n) in
-          let all : a + 1 ≡ length (w ++ (b ∷ [])) = omega (arith, n, z.0) in
-          holds_whole (omega (arith, n, z.0, long)) (l ∙ ap Some all)
-          (e ∙ ap (λ (l : List ℕ). set l a b) here ∙ rw z.0 (set_behind w b k) ∙ ap (λ (j : ℕ). (w ++ (b ∷ [])) ++ zeros j) rest)
+          let n = length-append w t in
+          let here : p.out.now ≡ w ++ zeros (length p.out.now - length w) = h.there z.1 in
+          let k = a + length t - a in
+          let rest : length p.out.now - length w - k ≡ length q.out.now - length (w ++ t) = omega (arith, long, n) in
+          let all : a + length t ≡ length (w ++ t) = omega (arith, n, z.0) in
+          holds_whole (omega (arith, n, z.0, long, f)) (l ∙ ap Some all)
+          (e ∙ ap (λ (l : List ℕ). put_mid a k l t) here ∙ put_behind w t k (length p.out.now - length w) z.0 ∙ ap (λ (j : ℕ). (w ++ t) ++ zeros j) rest)
 
   module _ (e : q.out.now ≡ p.out.now) (l : q.len ≡ None) where
-    shut : ((w : List ℕ) → Holds w p → length p.out.now < length w + 1) → Wrote (b ∷ []) p q
-    shut f = record { same = s; long = ap length e; holds = λ w h. let n = length-append w (b ∷ []) in holds_none (rw (e, n) (f w h)) l }
+    shut : ((w : List ℕ) → Holds w p → length p.out.now < length w + length t) → Wrote t p q
+    shut f = record { same = s; long = ap length e; holds = λ w h. let n = length-append w t in holds_none (rw (e, n) (f w h)) l }
 
-    -- the buffer is full
-    pub filled : {a : ℕ} → p.len ≡ Some a → length p.out.now ≤ a → Wrote (b ∷ []) p q
+    -- the buffer ends before it
+    pub filled : {a : ℕ} → p.len ≡ Some a → length p.out.now < a + length t → Wrote t p q
     filled i f = shut (λ w h. omega (arith, fitting h i, f))
 
-    -- an earlier byte did not fit
-    pub closed : p.len ≡ None → Wrote (b ∷ []) p q
+    -- an earlier piece did not fit
+    pub closed : p.len ≡ None → Wrote t p q
     closed i = shut (λ w h. let z = told-cut w (length p.out.now) h.told i in omega (arith, z))
 
 -- ---- pieces one behind the other
@@ -80,7 +82,7 @@ some_is : (r : Option ℕ) → is_some r ≡ true → r ≡ Some (unwrap_or r 0)
 some_is (Some k) e = refl
 some_is None e = clash (cc)
 
-none_is : (r : Option ℕ) → is_some r ≡ false → r ≡ None
+pub none_is : (r : Option ℕ) → is_some r ≡ false → r ≡ None
 none_is (Some k) e = clash (cc)
 none_is None e = refl
 
@@ -99,6 +101,10 @@ module _ (t : List ℕ) (n : ℕ) {p q : Printer} (z : p.out.now ≡ zeros n) (i
 
   pub printed_answer : q.len ≡ printed_by t n
   printed_answer = rw long at whole.told
+
+  -- where it tells none, None is the answer
+  pub printed_none : {r : Option ℕ} → is_some q.len ≡ false → r ≡ None → r ≡ printed_by t n
+  printed_none j e = e ∙ sym (none_is q.len j) ∙ printed_answer
 
   -- where the printer tells a length, what its buffer holds
   pub printed_text : {o : List ℕ} → is_some q.len ≡ true → o ≡ q.out.now → o ≡ printed_in t n

@@ -4,21 +4,26 @@ ghost use Rattle.std.specs.Prelude.{[], ◌∷◌};
 ghost use Rattle.printing.specs.Text.{decimal};
 ghost use Rattle.printing.specs.Put.{Wrote};
 
+// As many as the largest number has.
+const DIGITS: usize = 20;
+
 #[derive(Drop)]
 pub struct Printer<'a> {
     pub out: &'a mut [u8],
-    // How long the text is so far. Once a byte did not fit there is no length, and nothing more is stored.
+    // How long the text is so far. Once a piece did not fit there is no length, and nothing more is stored.
     pub len: Option<usize>,
 }
 
 impl Printer<'_> {
-    fn push(&mut self, byte: u8)
-        ensures { Wrote (byte ∷ []) self.old self.new }
+    // At once, so that the length, which lies in memory, is read and stored for each piece and not for each byte.
+    // A sum that no `usize` holds is behind every buffer's end too.
+    fn piece(&mut self, piece: &[u8])
+        ensures { Wrote piece.now self.old self.new }
     {
         self.len = match self.len {
-            Some(len) if len < self.out.len() => {
-                self.out[len] = byte;
-                Some(len + 1)
+            Some(len) if len.saturating_add(piece.len()) <= self.out.len() => {
+                self.out[len..len + piece.len()].copy_from_slice(piece);
+                Some(len + piece.len())
             }
             _ => None,
         };
@@ -27,19 +32,23 @@ impl Printer<'_> {
     pub fn text(&mut self, text: &str)
         ensures { Wrote text.now self.old self.new }
     {
-        for &byte in text.as_bytes() {
-            self.push(byte);
-        }
+        self.piece(text.as_bytes());
     }
 
-    // In decimal. What stands before a number's last digit is a number itself, and is written first.
+    // In decimal. The digits are found from the last to the first, so they are put together before they are written.
     pub fn number(&mut self, n: usize)
         ensures { Wrote (decimal n) self.old self.new }
     {
-        if n < 10 {
-            return self.push(b'0' + n as u8);
+        let mut digits = [0; DIGITS];
+        let mut at = DIGITS;
+        let mut rest = n;
+        while rest >= 10 {
+            at -= 1;
+            digits[at] = b'0' + (rest % 10) as u8;
+            rest /= 10;
         }
-        self.number(n / 10);
-        self.push(b'0' + (n % 10) as u8);
+        at -= 1;
+        digits[at] = b'0' + rest as u8;
+        self.piece(&digits[at..]);
     }
 }
