@@ -35,13 +35,19 @@ impl<const N: usize> Buffer<N> {
         }
     }
 
-    // Two hexadecimal digits make a byte; spaces may stand between bytes.
+    // Two hexadecimal digits make a byte; spaces may stand between bytes. A space behind a byte's first digit is its second one, and a lone
+    // digit at the end makes no byte.
     pub fn push_hex(&mut self, digits: &[u8]) {
-        for word in digits.split(|c| *c == b' ') {
-            let (pairs, _) = word.as_chunks::<2>();
-            for [high, low] in pairs {
-                self.push(pair(*high, *low));
-            }
+        let mut first = None;
+        for c in digits {
+            first = match first {
+                Some(high) => {
+                    self.push(pair(high, *c));
+                    None
+                }
+                None if *c == b' ' => None,
+                None => Some(*c),
+            };
         }
     }
 
@@ -60,11 +66,13 @@ impl<const N: usize> Buffer<N> {
         }
     }
 
-    // The byte at a place; bytes up to it are there then.
+    // The byte at a place; bytes up to it are there then. Behind the room's end the byte is lost, and the room is full.
     pub fn set(&mut self, at: usize, byte: u8) {
         if at < N {
             self.room[at] = byte;
             self.len = self.len.max(at + 1);
+        } else {
+            self.len = N;
         }
     }
 

@@ -18,10 +18,12 @@ use std::mem;
 // More than the longest packet that a length field can tell of: 40 + 65,535 bytes.
 const ROOM: usize = 65600;
 
-// Between two lines: the bytes that are there, and the sum of the slices added.
+// Between two lines: the bytes that are there, whether bytes behind the room's end should be there too, which are lost, and the sum of the
+// slices added.
 #[derive(Drop)]
 struct State {
     bytes: Buffer<ROOM>,
+    lost: bool,
     sum: Sum16BitWords,
 }
 
@@ -29,6 +31,7 @@ impl State {
     fn new() -> Self {
         State {
             bytes: Buffer::new(),
+            lost: false,
             sum: Sum16BitWords::new(),
         }
     }
@@ -38,10 +41,11 @@ impl State {
         io::write_all(1, name);
         io::write_all(1, b":");
         self.bytes.clear();
+        self.lost = false;
         self.sum = Sum16BitWords::new();
     }
 
-    // A value that no byte has is a fault of the list.
+    // A value that no byte has is a fault of the list. At the room's end the byte itself is lost, and none of those up to it.
     fn set(&mut self, rest: &[u8]) -> Option<bool> {
         let (at, rest) = number(rest);
         let (value, _) = number(rest);
@@ -49,6 +53,7 @@ impl State {
             return Some(not_understood());
         };
         self.bytes.set(at, byte);
+        self.lost |= at > ROOM;
         None
     }
 
@@ -60,9 +65,14 @@ impl State {
         }
     }
 
-    fn add(&mut self) {
+    // Bytes of which some were lost are no slice to add, until the next group of cases.
+    fn add(&mut self) -> Option<bool> {
+        if self.lost {
+            return Some(not_understood());
+        }
         self.sum = self.sum.add_slice(self.bytes.bytes());
         self.bytes.clear();
+        None
     }
 
     fn check(&mut self, rest: &[u8]) -> bool {
@@ -82,7 +92,7 @@ impl State {
             b'1' => return Some(self.frame(rest, Entry::Ethernet)),
             b'2' => return Some(self.frame(rest, Entry::Ipv4)),
             b'3' => return Some(self.frame(rest, Entry::Ipv6)),
-            b'+' => self.add(),
+            b'+' => return self.add(),
             b's' => return Some(self.check(rest)),
             _ => return Some(not_understood()),
         }
