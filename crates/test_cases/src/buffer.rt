@@ -53,9 +53,12 @@ impl<const N: usize> Buffer<N> {
 
     // An answer of several lines, which stand in a list with slashes between them.
     pub fn push_lines(&mut self, listed: &[u8]) {
-        for c in listed {
-            self.push(unslashed(*c));
+        // A slice, since no part of an array of N bytes is lent to a loop.
+        let room = &mut self.room[..];
+        for (place, c) in room[self.len..].iter_mut().zip(listed) {
+            *place = unslashed(*c);
         }
+        self.len = self.len.saturating_add(listed.len()).min(N);
         self.push(b'\n');
     }
 
@@ -76,8 +79,9 @@ impl<const N: usize> Buffer<N> {
         }
     }
 
+    // Only what was filled is filled anew: what is behind it is zero already, and most lists fill little of their room.
     pub fn clear(&mut self) {
-        self.room.fill(0);
+        self.room[..self.len].fill(0);
         self.len = 0;
     }
 }

@@ -7,6 +7,7 @@
 //                have slashes between them; 2 the same as a packet known to be IPv4, 3 as one known to be IPv6
 //   +            the bytes are a slice that is added to the sum, and then there are none
 //   s DIGITS     a case: the sum's checksum and its no-zero form; then the sum is that of nothing
+use crate::agree;
 use crate::buffer::Buffer;
 use crate::compare::{not_understood, sliced, summed};
 use crate::tally::Tally;
@@ -19,12 +20,13 @@ use std::mem;
 const ROOM: usize = 65600;
 
 // Between two lines: the bytes that are there, whether bytes behind the room's end should be there too, which are lost, and the sum of the
-// slices added.
+// slices added; and the buffer in which each case puts its answer together.
 #[derive(Drop)]
 struct State {
     bytes: Buffer<ROOM>,
     lost: bool,
     sum: Sum16BitWords,
+    answer: Buffer<{ agree::ROOM }>,
 }
 
 impl State {
@@ -33,6 +35,7 @@ impl State {
             bytes: Buffer::new(),
             lost: false,
             sum: Sum16BitWords::new(),
+            answer: Buffer::new(),
         }
     }
 
@@ -57,10 +60,10 @@ impl State {
         None
     }
 
-    fn frame(&self, rest: &[u8], entry: Entry) -> bool {
+    fn frame(&mut self, rest: &[u8], entry: Entry) -> bool {
         let (len, answer) = number(rest);
         match self.bytes.room().get(..len) {
-            Some(frame) => sliced(frame, entry, answer),
+            Some(frame) => sliced(frame, entry, answer, &mut self.answer),
             None => not_understood(),
         }
     }
