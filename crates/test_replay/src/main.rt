@@ -4,6 +4,8 @@
 // Where a read fails there is nothing to report, and standard error says so.
 #![tactic(auto)]
 
+ghost use Rattle.std.specs.Prelude.{◌≤◌, length, IfOk};
+
 use rules::Entry;
 use std::io::{Error, Read};
 use test_cases::Tally;
@@ -102,7 +104,9 @@ fn fill<R: Read>(list: &mut R, part: &mut [u8]) -> Result<(), Broken> {
 }
 
 // Reads bytes whose number stands before them, in two bytes. Where the room has fewer, none of them is read.
-fn counted<'a, R: Read>(list: &mut R, room: &'a mut [u8; ROOM]) -> Result<&'a [u8], Broken> {
+fn counted<'a, R: Read>(list: &mut R, room: &'a mut [u8; ROOM]) -> Result<&'a [u8], Broken>
+    ensures { IfOk result (λ part. length part.now ≤ length room.old) }
+{
     let mut head = [0; 2];
     fill(list, &mut head)?;
     let len = usize::from(u16::from_be_bytes(head));
