@@ -28,22 +28,23 @@ fn printed<'a>(frame: &[u8], buffer: &'a mut [u8]) -> &'a [u8]
     &buffer[..len]
 }
 
-fn answer(rt: &(impl Print + Eprint), text: &[u8]) {
-    if rt.write_all(text).is_err() {
-        let _ = eprintln!(rt; "slice_frame: standard output can't be written");
+// Written by crate `io`, as standard error is: a write that a signal interrupts counts as one that failed, where the runtime would try it again.
+fn answer(text: &[u8]) {
+    if !io::write_all(1, text) {
+        io::write_all(2, b"slice_frame: standard output can't be written\n");
     }
 }
 
 fn main(rt: HostRuntime) {
     let mut frame = [0; ROOM];
     let Ok(len) = input::read(&mut rt.stdin(), &mut frame) else {
-        let _ = eprintln!(rt; "slice_frame: standard input can't be read");
+        io::write_all(2, b"slice_frame: standard input can't be read\n");
         return;
     };
     if len == ROOM {
-        answer(&rt, b"too long\n");
+        answer(b"too long\n");
         return;
     }
     let mut buffer = [0; TEXT];
-    answer(&rt, printed(&frame[..len], &mut buffer));
+    answer(printed(&frame[..len], &mut buffer));
 }

@@ -35,21 +35,30 @@ impl<const N: usize> Buffer<N> {
         }
     }
 
-    // Two hexadecimal digits make a byte; spaces may stand between bytes.
+    // Two hexadecimal digits make a byte; spaces may stand between bytes. A space behind a byte's first digit is its second one, and a lone
+    // digit at the end makes no byte.
     pub fn push_hex(&mut self, digits: &[u8]) {
-        for word in digits.split(|c| *c == b' ') {
-            let (pairs, _) = word.as_chunks::<2>();
-            for [high, low] in pairs {
-                self.push(pair(*high, *low));
-            }
+        let mut first = None;
+        for c in digits {
+            first = match first {
+                Some(high) => {
+                    self.push(pair(high, *c));
+                    None
+                }
+                None if *c == b' ' => None,
+                None => Some(*c),
+            };
         }
     }
 
     // An answer of several lines, which stand in a list with slashes between them.
     pub fn push_lines(&mut self, listed: &[u8]) {
-        for c in listed {
-            self.push(unslashed(*c));
+        // A slice, since no part of an array of N bytes is lent to a loop.
+        let room = &mut self.room[..];
+        for (place, c) in room[self.len..].iter_mut().zip(listed) {
+            *place = unslashed(*c);
         }
+        self.len = self.len.saturating_add(listed.len()).min(N);
         self.push(b'\n');
     }
 
@@ -60,16 +69,19 @@ impl<const N: usize> Buffer<N> {
         }
     }
 
-    // The byte at a place; bytes up to it are there then.
+    // The byte at a place; bytes up to it are there then. Behind the room's end the byte is lost, and the room is full.
     pub fn set(&mut self, at: usize, byte: u8) {
         if at < N {
             self.room[at] = byte;
             self.len = self.len.max(at + 1);
+        } else {
+            self.len = N;
         }
     }
 
+    // Only what was filled is filled anew: what is behind it is zero already, and most lists fill little of their room.
     pub fn clear(&mut self) {
-        self.room.fill(0);
+        self.room[..self.len].fill(0);
         self.len = 0;
     }
 }

@@ -26,10 +26,11 @@ pub fn not_understood() -> bool {
     false
 }
 
-pub fn sliced(frame: &[u8], entry: Entry, listed: &[u8]) -> bool {
-    let mut answer = Buffer::<ROOM>::new();
-    answer.push_lines(listed);
-    let answer = answer.bytes();
+// The answer is put together in a lent buffer: one of its own would be filled with zeros for each case.
+pub fn sliced(frame: &[u8], entry: Entry, listed: &[u8], buffer: &mut Buffer<ROOM>) -> bool {
+    buffer.clear();
+    buffer.push_lines(listed);
+    let answer = buffer.bytes();
     let same = agrees(frame, entry, answer);
     if same {
         io::write_all(1, b" same");

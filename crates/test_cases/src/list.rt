@@ -7,6 +7,7 @@
 //                have slashes between them; 2 the same as a packet known to be IPv4, 3 as one known to be IPv6
 //   +            the bytes are a slice that is added to the sum, and then there are none
 //   s DIGITS     a case: the sum's checksum and its no-zero form; then the sum is that of nothing
+use crate::agree;
 use crate::buffer::Buffer;
 use crate::compare::{not_understood, sliced, summed};
 use crate::tally::Tally;
@@ -18,18 +19,23 @@ use std::mem;
 // More than the longest packet that a length field can tell of: 40 + 65,535 bytes.
 const ROOM: usize = 65600;
 
-// Between two lines: the bytes that are there, and the sum of the slices added.
+// Between two lines: the bytes that are there, whether bytes behind the room's end should be there too, which are lost, and the sum of the
+// slices added; and the buffer in which each case puts its answer together.
 #[derive(Drop)]
 struct State {
     bytes: Buffer<ROOM>,
+    lost: bool,
     sum: Sum16BitWords,
+    answer: Buffer<{ agree::ROOM }>,
 }
 
 impl State {
     fn new() -> Self {
         State {
             bytes: Buffer::new(),
+            lost: false,
             sum: Sum16BitWords::new(),
+            answer: Buffer::new(),
         }
     }
 
@@ -38,10 +44,11 @@ impl State {
         io::write_all(1, name);
         io::write_all(1, b":");
         self.bytes.clear();
+        self.lost = false;
         self.sum = Sum16BitWords::new();
     }
 
-    // A value that no byte has is a fault of the list.
+    // A value that no byte has is a fault of the list. At the room's end the byte itself is lost, and none of those up to it.
     fn set(&mut self, rest: &[u8]) -> Option<bool> {
         let (at, rest) = number(rest);
         let (value, _) = number(rest);
@@ -49,20 +56,26 @@ impl State {
             return Some(not_understood());
         };
         self.bytes.set(at, byte);
+        self.lost |= at > ROOM;
         None
     }
 
-    fn frame(&self, rest: &[u8], entry: Entry) -> bool {
+    fn frame(&mut self, rest: &[u8], entry: Entry) -> bool {
         let (len, answer) = number(rest);
         match self.bytes.room().get(..len) {
-            Some(frame) => sliced(frame, entry, answer),
+            Some(frame) => sliced(frame, entry, answer, &mut self.answer),
             None => not_understood(),
         }
     }
 
-    fn add(&mut self) {
+    // Bytes of which some were lost are no slice to add, until the next group of cases.
+    fn add(&mut self) -> Option<bool> {
+        if self.lost {
+            return Some(not_understood());
+        }
         self.sum = self.sum.add_slice(self.bytes.bytes());
         self.bytes.clear();
+        None
     }
 
     fn check(&mut self, rest: &[u8]) -> bool {
@@ -82,7 +95,7 @@ impl State {
             b'1' => return Some(self.frame(rest, Entry::Ethernet)),
             b'2' => return Some(self.frame(rest, Entry::Ipv4)),
             b'3' => return Some(self.frame(rest, Entry::Ipv6)),
-            b'+' => self.add(),
+            b'+' => return self.add(),
             b's' => return Some(self.check(rest)),
             _ => return Some(not_understood()),
         }

@@ -1,8 +1,10 @@
 // The words of a list's lines: numbers, and what a digit or a byte of an answer stands for.
-ghost use Rattle.std.specs.Prelude.{◌<◌};
+ghost use Rattle.std.specs.Prelude.{◌<◌, ◌≤◌, length};
 
 // The text without its first byte.
-pub fn behind(text: &[u8]) -> &[u8] {
+pub fn behind(text: &[u8]) -> &[u8]
+    ensures { length result.now ≤ length text.now }
+{
     text.get(1..).unwrap_or(&[])
 }
 
@@ -15,7 +17,9 @@ fn with_digit(value: usize, c: u8) -> usize {
 }
 
 // The number at the begin of a text, up to a space or the end, and what stands behind the space.
-pub fn number(text: &[u8]) -> (usize, &[u8]) {
+pub fn number(text: &[u8]) -> (usize, &[u8])
+    ensures { length result.1.now ≤ length text.now }
+{
     let end = text.iter().position(|c| *c == b' ').unwrap_or(text.len());
     let (digits, rest) = text.split_at(end);
     let value = digits.iter().fold(0, |value, c| with_digit(value, *c));

@@ -4,7 +4,7 @@
 
 use tcp_options::{OptionRow, TcpOption};
 
-// Printed by crate `io`. `println!` was tried: the check takes 60 s of processor time and not 21 s, and a write that fails gives another exit status.
+// Printed by crate `io`. `println!` was tried: the check takes 60 s of processor time and not 21 s, and a write that a signal interrupts would be tried again.
 fn print_number(n: usize) {
     io::print_decimal(1, n as u64);
 }

@@ -4,9 +4,10 @@
 // Where a read fails there is nothing to report, and standard error says so.
 #![tactic(auto)]
 
+ghost use Rattle.std.specs.Prelude.{◌≤◌, length, IfOk};
+
 use rules::Entry;
-use std::io::Read;
-use std::{fmt, io};
+use std::io::{Error, Read};
 use test_cases::Tally;
 
 // So many cases are compared; where the list goes on, that is told.
@@ -18,11 +19,11 @@ const ROOM: usize = 4096;
 // Why no case could be read where one begins: it is not whole, or longer than the room; or a read failed.
 enum Broken {
     Cut,
-    Failed(io::Error),
+    Failed(Error),
 }
 
-impl From<io::Error> for Broken {
-    fn from(error: io::Error) -> Broken {
+impl From<Error> for Broken {
+    fn from(error: Error) -> Broken {
         Broken::Failed(error)
     }
 }
@@ -35,12 +36,12 @@ enum End {
     On,
 }
 
-impl fmt::Display for End {
-    fn fmt<W: fmt::Write>(&self, f: &mut fmt::Formatter<W>) -> fmt::Result {
+impl End {
+    fn text(self) -> &'static [u8] {
         match self {
-            End::Whole => write!(f, "the list is whole"),
-            End::Cut => write!(f, "the list is cut: a case follows that is not whole"),
-            End::On => write!(f, "the list may go on"),
+            End::Whole => b"the list is whole\n",
+            End::Cut => b"the list is cut: a case follows that is not whole\n",
+            End::On => b"the list may go on\n",
         }
     }
 }
@@ -61,14 +62,25 @@ impl Seen {
         }
     }
 
-    fn report(&self, rt: &impl Print) -> io::Result<()> {
-        println!(rt; "cases compared: {}", self.tally.compared)?;
-        println!(rt; "the same: {}", self.tally.same)?;
-        match self.first {
-            Some(first) => println!(rt; "first different case: {first}")?,
-            None => println!(rt; "first different case: none")?,
-        }
-        println!(rt; "{}", self.end)
+    // Whether all of it was written.
+    fn report(&self) -> bool {
+        line(b"cases compared: ", self.tally.compared)
+            && line(b"the same: ", self.tally.same)
+            && different(self.first)
+            && io::write_all(1, self.end.text())
+    }
+}
+
+// Written by crate `io`, as standard error is: a write that a signal interrupts counts as one that failed, where `println!` would try it again.
+// And the text, the number and the line's end are a write each, where `println!` has one for all.
+fn line(text: &[u8], number: u64) -> bool {
+    io::write_all(1, text) && io::print_decimal(1, number) && io::write_all(1, b"\n")
+}
+
+fn different(first: Option<u64>) -> bool {
+    match first {
+        Some(first) => line(b"first different case: ", first),
+        None => io::write_all(1, b"first different case: none\n"),
     }
 }
 
@@ -92,7 +104,9 @@ fn fill<R: Read>(list: &mut R, part: &mut [u8]) -> Result<(), Broken> {
 }
 
 // Reads bytes whose number stands before them, in two bytes. Where the room has fewer, none of them is read.
-fn counted<'a, R: Read>(list: &mut R, room: &'a mut [u8; ROOM]) -> Result<&'a [u8], Broken> {
+fn counted<'a, R: Read>(list: &mut R, room: &'a mut [u8; ROOM]) -> Result<&'a [u8], Broken>
+    ensures { IfOk result (λ part. length part.now ≤ length room.old) }
+{
     let mut head = [0; 2];
     fill(list, &mut head)?;
     let len = usize::from(u16::from_be_bytes(head));
@@ -125,7 +139,7 @@ fn next_case<R: Read>(list: &mut R) -> Result<Option<bool>, Broken> {
     Ok(Some(case(list, number[0])?))
 }
 
-fn compare<R: Read>(list: &mut R) -> io::Result<Seen> {
+fn compare<R: Read>(list: &mut R) -> Result<Seen, Error> {
     let mut seen = Seen {
         tally: Tally::new(),
         first: None,
@@ -150,10 +164,10 @@ fn compare<R: Read>(list: &mut R) -> io::Result<Seen> {
 
 fn main(rt: HostRuntime) {
     let Ok(seen) = compare(&mut rt.stdin()) else {
-        let _ = eprintln!(rt; "test_replay: standard input can't be read");
+        io::write_all(2, b"test_replay: standard input can't be read\n");
         return;
     };
-    if seen.report(&rt).is_err() {
-        let _ = eprintln!(rt; "test_replay: standard output can't be written");
+    if !seen.report() {
+        io::write_all(2, b"test_replay: standard output can't be written\n");
     }
 }
